@@ -6,13 +6,13 @@ use Rattle.std.proofs.Common.{sum_by, is_some, is_none}
 use Rattle.std.proofs.lemmas.List.Sums.{sum_by_push}
 use Rattle.std.proofs.lemmas.List.Concat.{flat_map-cons}
 use Rattle.std.proofs.lemmas.Grind.{flat_map-append}
-use Rattle.serde_json.specs.Data.{Data}
+use Rattle.report.specs.Members.{LineMembers}
 use Rattle.report.specs.Counts.{AddsLine, GoesUp, NotesEach, all_names, one_if}
 use Rattle.report.specs.Names.{names_if}
 use Rattle.report.specs.Questions.{AreTallies, limit_of, names_of}
 use Rattle.report.specs.Reading.{CountsLines}
 use Rattle.report.specs.Tallies.{RowName, capped, IsTally}
-use Rattle.report.specs.LogEvents.{event_in, event_in_window}
+use Rattle.report.specs.Windows.{event_in, event_in_window}
 use Rattle.report.specs.declared.counting.Report.{Report}
 use Rattle.report.specs.declared.question.Question.{Question}
 use Rattle.report.specs.declared.question.TheConstants.{QUESTIONS}
@@ -38,7 +38,7 @@ more_sum f before line old new by up by_is old_is =
     ∙ ap capped (ap (λ (k : ℕ). sum_by f before + k) by_is ∙ sym (sum_by_push f before line))
 
 module _ (window : Window) (before : List (List ℕ)) (line : List ℕ) where
-  more_names : (names : Data → List RowName)
+  more_names : (names : LineMembers → List RowName)
       → all_names window (before ++ line ∷ []) names
       ≡ all_names window before names ++ names_if names (event_in_window window line)
   more_names names =
@@ -78,7 +78,7 @@ each_stays [] tallies = refl
 each_stays (q ∷ questions) [] = refl
 each_stays (q ∷ questions) (t ∷ tallies) = (notes_none t, each_stays questions tallies)
 
-pub adds_nothing : (event : Data) (r : Report) → AddsLine (Some event) None r r
+pub adds_nothing : (event : LineMembers) (r : Report) → AddsLine (Some event) None r r
 adds_nothing event r = record {
   lines_counted = stays r.lines;
   foreign = stays r.foreign;

@@ -6,7 +6,7 @@ use Rattle.std.proofs.Math.ListN.{set}
 use Rattle.std.proofs.Math.Seq.{take-length}
 use Rattle.std.proofs.lemmas.List.{drop-set-lt, drop_more, length-drop, take-append-drop}
 use Rattle.std.proofs.lemmas.List.{take_more_set}
-use Rattle.serde_json.specs.Data.{Data}
+use Rattle.report.specs.Members.{AppMembers}
 use Rattle.report.specs.Counts.{NotesEach}
 use Rattle.report.specs.Events.{NotesByte, closed_names, names_after, object_name}
 use Rattle.report.specs.Names.{listed}
@@ -45,7 +45,7 @@ module _ {X : Type 0} (names : List X → List RowName) (all : List RowName) (st
       (notes_none old))
 
 -- the objects of a text, byte by byte
-module _ (question : EventQuestion) (app : Data) (appid : List ℕ) where
+module _ (question : EventQuestion) (app : AppMembers) (appid : List ℕ) where
   abbrev names_if : Bool → List ℕ → List RowName
   names_if closes object =
       if closes then listed (object_name question app appid object) else []

@@ -2,11 +2,11 @@
 use Rattle.std.specs.Prelude.{◌≡◌, ℕ, ◌+◌, List, [], ◌∷◌, codes, count_by, flat_map, sum_by}
 use Rattle.std.specs.Prelude.{Bool, Option, Some, None, is_some, is_none, unwrap_or}
 use Rattle.std.specs.Prelude.{if◌then◌else◌}
-use Rattle.serde_json.specs.Data.{Data}
 use Rattle.report.specs.Names.{names_if}
 use Rattle.report.specs.Questions.{AreTallies, names_of}
 use Rattle.report.specs.Tallies.{RowName, capped, Notes}
-use Rattle.report.specs.LogEvents.{event_in, is_kind, number_in, event_in_window}
+use Rattle.report.specs.Members.{LineMembers}
+use Rattle.report.specs.Windows.{event_in, event_in_window, is_kind}
 use Rattle.report.specs.declared.counting.Report.{Report}
 use Rattle.report.specs.declared.question.Question.{Question}
 use Rattle.report.specs.declared.question.TheConstants.{QUESTIONS}
@@ -15,32 +15,32 @@ use Rattle.report.specs.declared.window.Window.{Window}
 
 -- ---- in one line, if it counts
 
-abbrev pub number_if : (Data → ℕ) → Option Data → ℕ
+abbrev pub number_if : (LineMembers → ℕ) → Option LineMembers → ℕ
 number_if number (Some line) = number line
 number_if number None = 0
 
 -- a number of the lines of a kind, or 0
-abbrev pub number_in_kind : (kind name : List ℕ) → Data → ℕ
-number_in_kind kind name line = if is_kind kind line then unwrap_or (number_in name line) 0 else 0
+abbrev pub if_kind : (kind : List ℕ) → LineMembers → Option ℕ → ℕ
+if_kind kind line number = if is_kind kind line then unwrap_or number 0 else 0
 
 -- how many lines were lost before it
-abbrev pub lost_in : Data → ℕ
-lost_in line = number_in_kind (codes "lost") (codes "lines") line
+abbrev pub lost_in : LineMembers → ℕ
+lost_in line = if_kind (codes "lost") line line.lines
 
 -- how many apps it leaves out, and how many of these were offered a release
-abbrev pub left_out_in : Data → ℕ
-left_out_in line = number_in_kind (codes "connection") (codes "left_out") line
+abbrev pub left_out_in : LineMembers → ℕ
+left_out_in line = if_kind (codes "connection") line line.left_out
 
-abbrev pub offers_left_out_in : Data → ℕ
-offers_left_out_in line = number_in_kind (codes "connection") (codes "offers_left_out") line
+abbrev pub offers_left_out_in : LineMembers → ℕ
+offers_left_out_in line = if_kind (codes "connection") line line.offers_left_out
 
 -- ---- in all lines
 
 module _ (window : Window) (lines : List (List ℕ)) where
-  abbrev pub all_names : (Data → List RowName) → List RowName
+  abbrev pub all_names : (LineMembers → List RowName) → List RowName
   all_names names = flat_map (λ line. names_if names (event_in_window window line)) lines
 
-  abbrev pub total : (Data → ℕ) → ℕ
+  abbrev pub total : (LineMembers → ℕ) → ℕ
   total number = capped (sum_by (λ line. number_if number (event_in_window window line)) lines)
 
   -- The table of each question counts the names in the lines that count: the server's, in the
@@ -76,7 +76,7 @@ NotesEach names (question ∷ questions) (a ∷ old) (b ∷ new) =
     Notes a b (names question) × NotesEach names questions old new
 
 -- the counts after a line: `event` is its event, if it is one, and `line` the same, if it counts
-pub record AddsLine (event line : Option Data) (old new : Report) : Type 0 where
+pub record AddsLine (event line : Option LineMembers) (old new : Report) : Type 0 where
   pub lines_counted : GoesUp old.lines new.lines (one_if (is_some line))
   pub foreign : GoesUp old.foreign new.foreign (one_if (is_none event))
   pub lost : GoesUp old.lost new.lost (number_if lost_in line)

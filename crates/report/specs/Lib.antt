@@ -1,6 +1,8 @@
 pub mod Tallies
 pub mod Lines
 pub mod LogEvents
+pub mod Members
+pub mod Windows
 pub mod Names
 pub mod Objects
 pub mod Events

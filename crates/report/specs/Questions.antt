@@ -2,9 +2,9 @@
 use Rattle.std.specs.Prelude.{ℕ, List, [], ◌∷◌, codes, Bool, Option, Some, None, if◌then◌else◌}
 use Rattle.std.specs.List.{AllZip}
 use Rattle.std.specs.Str.{bytes_eq}
-use Rattle.serde_json.specs.Data.{Data}
 use Rattle.report.specs.Courses.{chart_names}
 use Rattle.report.specs.Events.{event_names}
+use Rattle.report.specs.Members.{LineMembers}
 use Rattle.report.specs.Names.{app_names, line_names}
 use Rattle.report.specs.Tallies.{RowName, IsTally}
 use Rattle.report.specs.declared.question.AppQuestion.TheVariants as of_app
@@ -18,7 +18,7 @@ use Rattle.report.specs.declared.tally.Tally.{Tally}
 -- ---- what is counted
 
 -- the names in a line; without a chart, no name is counted for it
-abbrev pub names_of : (drawn : Bool) → Question → Data → List RowName
+abbrev pub names_of : (drawn : Bool) → Question → LineMembers → List RowName
 names_of drawn (Line question) line = line_names question line
 names_of drawn (App question) line = app_names question line
 names_of drawn (Event question) line = event_names question line

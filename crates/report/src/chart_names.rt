@@ -2,16 +2,14 @@
 //! installs and failed ones of each version, by the minute and by the hour.
 
 ghost use Rattle.std.specs.Prelude.{◌≡◌, Some, OnOk};
-ghost use Rattle.serde_json.specs.View.{view};
 ghost use Rattle.report.specs.Courses as specs;
 ghost use Rattle.report.specs.Tallies.{Notes};
 
-use crate::log_events::text_in;
+use crate::log_line::LogLine;
 use crate::note::{note_apps, note_ends};
 use crate::question::{AppQuestion, ChartQuestion, EventQuestion};
 use crate::tally::{Tally, note_nothing};
 use moments::minute_in;
-use serde_json::Value;
 use std::alloc::{AllocError, Global};
 
 /// Counts a line for a chart.
@@ -19,10 +17,10 @@ pub(crate) fn note_chart(
     alloc: Global,
     tally: &mut Tally,
     question: ChartQuestion,
-    line: &Value,
+    line: &LogLine<'_>,
 ) -> Result<(), AllocError>
     ensures { OnOk result (Notes tally.old tally.new
-        (specs.chart_names question (view line.now))) }
+        (specs.chart_names question line.now)) }
 {
     match question {
         ChartQuestion::Versions => note_three(
@@ -41,10 +39,10 @@ pub(crate) fn note_chart(
 }
 
 // The minute of a line since 1970.
-fn minute_of_line(line: &Value) -> Option<u64>
-    ensures { result ≡ specs.minute_of_line (view line.now) }
+fn minute_of_line(line: &LogLine<'_>) -> Option<u64>
+    ensures { result ≡ specs.minute_of_line line.now }
 {
-    match text_in(line, "time") {
+    match line.time {
         Some(time) => minute_in(time),
         None => None,
     }
@@ -63,10 +61,10 @@ fn note_moment(
     alloc: Global,
     tally: &mut Tally,
     moment: Option<u64>,
-    line: &Value,
+    line: &LogLine<'_>,
 ) -> Result<(), AllocError>
     ensures { OnOk result
-        (Notes tally.old tally.new (specs.names_in_moment (view line.now) moment)) }
+        (Notes tally.old tally.new (specs.names_in_moment line.now moment)) }
 {
     match moment {
         Some(moment) => note_at(alloc, tally, moment, line),
@@ -74,9 +72,14 @@ fn note_moment(
     }
 }
 
-fn note_at(alloc: Global, tally: &mut Tally, moment: u64, line: &Value) -> Result<(), AllocError>
+fn note_at(
+    alloc: Global,
+    tally: &mut Tally,
+    moment: u64,
+    line: &LogLine<'_>,
+) -> Result<(), AllocError>
     ensures { OnOk result
-        (Notes tally.old tally.new (specs.names_in_moment (view line.now) (Some moment))) }
+        (Notes tally.old tally.new (specs.names_in_moment line.now (Some moment))) }
 {
     note_three(
         alloc,
@@ -96,10 +99,10 @@ fn note_three(
     asks: AppQuestion,
     offers: AppQuestion,
     failures: EventQuestion,
-    line: &Value,
+    line: &LogLine<'_>,
 ) -> Result<(), AllocError>
     ensures { OnOk result (Notes tally.old tally.new
-        (specs.three_names asks offers failures (view line.now))) }
+        (specs.three_names asks offers failures line.now)) }
 {
     note_apps(alloc, tally, asks, line)?;
     note_apps(alloc, tally, offers, line)?;

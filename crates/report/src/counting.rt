@@ -1,14 +1,17 @@
 //! All counts of a log, line by line.
 
-ghost use Rattle.std.specs.Prelude.{◌≡◌, [], ◌∷◌, None, Some, IfOk, OnOk, option_map};
+ghost use Rattle.std.specs.Prelude.{◌≡◌, [], ◌∷◌, None, Some, IfOk, OnOk};
+ghost use Rattle.std.specs.Prelude.{option_and_then, option_map};
 ghost use Rattle.serde_json.specs.View.{view};
 ghost use Rattle.report.specs.Counts as specs;
 ghost use Rattle.report.specs.Questions.{AreTallies, tally_named};
 ghost use Rattle.report.specs.Reading.{CountsLines};
 ghost use Rattle.report.specs.Screen.{tally_of};
-ghost use Rattle.report.specs.LogEvents.{event_in, event_in_window, if_within};
+ghost use Rattle.report.specs.Members.{line_members};
+ghost use Rattle.report.specs.Windows.{event_in, event_in_window, event_of, if_within};
 
-use crate::log_events::{event_in, is_kind, is_within, number_in};
+use crate::log_events::{is_event, is_within, value_in};
+use crate::log_line::LogLine;
 use crate::note::note_questions;
 use crate::question::{QUESTIONS, Question};
 use crate::tally::Tally;
@@ -82,10 +85,10 @@ impl Report {
             (specs.AddsLine (event_in line.now) (event_in_window window.now line.now) self.old
             self.new) }
     {
-        match event_in(alloc, line)? {
-            Some(event) => {
-                let counted = self.add_event(alloc, window, &event);
-                drop(event);
+        match value_in(alloc, line)? {
+            Some(value) => {
+                let counted = self.add_value(alloc, window, &value);
+                drop(value);
                 counted
             }
             None => {
@@ -102,6 +105,24 @@ impl Report {
         self.foreign = raised(self.foreign, 1);
     }
 
+    // Counts a line, if it is an event.
+    fn add_value(
+        &mut self,
+        alloc: Global,
+        window: &Window<'_>,
+        value: &Value,
+    ) -> Result<(), AllocError>
+        ensures { OnOk result (specs.AddsLine (event_of (view value.now))
+            (option_and_then (if_within window.now) (event_of (view value.now)))
+            self.old self.new) }
+    {
+        if is_event(value) {
+            return self.add_event(alloc, window, value);
+        }
+        self.add_foreign();
+        Ok(())
+    }
+
     // Counts an event, if it is in the window.
     fn add_event(
         &mut self,
@@ -109,29 +130,31 @@ impl Report {
         window: &Window<'_>,
         event: &Value,
     ) -> Result<(), AllocError>
-        ensures { OnOk result (specs.AddsLine (Some (view event.now))
-            (if_within window.now (view event.now)) self.old self.new) }
+        ensures { OnOk result (specs.AddsLine (Some (line_members (view event.now)))
+            (if_within window.now (line_members (view event.now))) self.old self.new) }
     {
         if is_within(window, event) {
-            return self.add(alloc, event);
+            let line = LogLine::of(alloc, event)?;
+            let counted = self.add(alloc, &line);
+            drop(line);
+            return counted;
         }
         Ok(())
     }
 
     #[tactic(auto, using(crate::proofs::Counted::stays))]
-    fn add(&mut self, alloc: Global, event: &Value) -> Result<(), AllocError>
-        ensures { OnOk result
-            (specs.AddsLine (Some (view event.now)) (Some (view event.now)) self.old self.new) }
+    fn add(&mut self, alloc: Global, line: &LogLine<'_>) -> Result<(), AllocError>
+        ensures { OnOk result (specs.AddsLine (Some line.now) (Some line.now) self.old self.new) }
     {
-        let lost = number_in_kind("lost", "lines", event);
-        let left_out = number_in_kind("connection", "left_out", event);
-        let offers = number_in_kind("connection", "offers_left_out", event);
+        let lost = lost_in(line);
+        let left_out = left_out_in(line);
+        let offers = offers_left_out_in(line);
         self.lines = raised(self.lines, 1);
         self.lost = raised(self.lost, lost);
         self.left_out = raised(self.left_out, left_out);
         self.offers_left_out = raised(self.offers_left_out, offers);
         let drawn = self.drawn;
-        note_questions(alloc, drawn, &mut self.tallies, event)?;
+        note_questions(alloc, drawn, &mut self.tallies, line)?;
         Ok(())
     }
 }
@@ -177,12 +200,33 @@ fn raised(n: u64, by: u64) -> u64
     n.saturating_add(by)
 }
 
-// A number of the lines of a kind, or 0.
-fn number_in_kind(kind: &str, name: &str, event: &Value) -> u64
-    ensures { result ≡ specs.number_in_kind kind.now name.now (view event.now) }
+// How many lines were lost before it.
+fn lost_in(line: &LogLine<'_>) -> u64
+    ensures { result ≡ specs.lost_in line.now }
 {
-    if is_kind(kind, event) {
-        number_in(event, name).unwrap_or(0)
+    if_kind("lost", line, line.lines)
+}
+
+// How many apps it leaves out.
+fn left_out_in(line: &LogLine<'_>) -> u64
+    ensures { result ≡ specs.left_out_in line.now }
+{
+    if_kind("connection", line, line.left_out)
+}
+
+// How many apps with an offer it leaves out.
+fn offers_left_out_in(line: &LogLine<'_>) -> u64
+    ensures { result ≡ specs.offers_left_out_in line.now }
+{
+    if_kind("connection", line, line.offers_left_out)
+}
+
+// A number of the lines of a kind, or 0.
+fn if_kind(kind: &str, line: &LogLine<'_>, number: Option<u64>) -> u64
+    ensures { result ≡ specs.if_kind kind.now line.now number }
+{
+    if line.is_kind(kind) {
+        number.unwrap_or(0)
     } else {
         0
     }

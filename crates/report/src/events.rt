@@ -2,13 +2,14 @@
 
 ghost use Rattle.std.specs.Prelude.{◌≡◌, [], IfOk, OnOk, if◌then◌else◌};
 ghost use Rattle.std.specs.String.{string_bytes};
-ghost use Rattle.serde_json.specs.View.{view, items_view};
+ghost use Rattle.serde_json.specs.View.{view};
 ghost use Rattle.report.specs.Events as specs;
 ghost use Rattle.report.specs.Names.{listed};
 ghost use Rattle.report.specs.Objects.{json_place};
 ghost use Rattle.report.specs.Tallies.{Notes};
 
 use crate::log_events::{is_number, number_in, text_in};
+use crate::log_line::LogApp;
 use crate::name_text::{course_name, decimal, text_or_mark, three, two};
 use crate::objects::ObjectReader;
 use crate::question::EventQuestion;
@@ -22,10 +23,10 @@ pub(crate) fn note_events(
     alloc: Global,
     tally: &mut Tally,
     question: EventQuestion,
-    apps: &[Value],
+    apps: &[LogApp<'_>],
 ) -> Result<(), AllocError>
     ensures { OnOk result (Notes tally.old tally.new
-        (specs.names_of_events question (items_view apps.now))) }
+        (specs.names_of_events question apps.now)) }
 {
     let mut left = apps;
     while let [app, rest @ ..] = left {
@@ -39,12 +40,12 @@ fn note_app_events(
     alloc: Global,
     tally: &mut Tally,
     question: EventQuestion,
-    app: &Value,
+    app: &LogApp<'_>,
 ) -> Result<(), AllocError>
     ensures { OnOk result (Notes tally.old tally.new
-        (specs.names_of_app question (view app.now))) }
+        (specs.names_of_app question app.now)) }
 {
-    match (text_in(app, "appid"), text_in(app, "event")) {
+    match (app.appid, app.event) {
         (Some(appid), Some(text)) => note_text(alloc, tally, question, app, appid, text.as_bytes()),
         _ => note_nothing(tally),
     }
@@ -55,12 +56,12 @@ fn note_text(
     alloc: Global,
     tally: &mut Tally,
     question: EventQuestion,
-    app: &Value,
+    app: &LogApp<'_>,
     appid: &str,
     text: &[u8],
 ) -> Result<(), AllocError>
     ensures { OnOk result (Notes tally.old tally.new
-        (specs.names_in_text question (view app.now) appid.now text.now)) }
+        (specs.names_in_text question app.now appid.now text.now)) }
 {
     let mut reader = ObjectReader::new(alloc);
     let mut left = text;
@@ -76,12 +77,12 @@ fn note_byte(
     alloc: Global,
     tally: &mut Tally,
     question: EventQuestion,
-    app: &Value,
+    app: &LogApp<'_>,
     appid: &str,
     reader: &mut ObjectReader,
     byte: u8,
 ) -> Result<(), AllocError>
-    ensures { OnOk result (specs.NotesByte question (view app.now) appid.now byte
+    ensures { OnOk result (specs.NotesByte question app.now appid.now byte
         (json_place reader.old) tally.old (json_place reader.new) tally.new) }
 {
     let closes = reader.read(byte)?;
@@ -94,13 +95,13 @@ fn note_closed(
     alloc: Global,
     tally: &mut Tally,
     question: EventQuestion,
-    app: &Value,
+    app: &LogApp<'_>,
     appid: &str,
     closes: bool,
     object: &[u8],
 ) -> Result<(), AllocError>
     ensures { OnOk result (Notes tally.old tally.new (if closes
-        then listed (specs.object_name question (view app.now) appid.now object.now)
+        then listed (specs.object_name question app.now appid.now object.now)
         else [])) }
 {
     if !closes {
@@ -121,12 +122,12 @@ fn note_event(
     alloc: Global,
     tally: &mut Tally,
     question: EventQuestion,
-    app: &Value,
+    app: &LogApp<'_>,
     appid: &str,
     event: &Value,
 ) -> Result<(), AllocError>
     ensures { OnOk result (Notes tally.old tally.new
-        (listed (specs.event_name question (view app.now) appid.now (view event.now)))) }
+        (listed (specs.event_name question app.now appid.now (view event.now)))) }
 {
     if !is_about(question, event) {
         return note_nothing(tally);
@@ -138,12 +139,12 @@ fn note_event(
 fn event_name_of(
     alloc: Global,
     question: EventQuestion,
-    app: &Value,
+    app: &LogApp<'_>,
     appid: &str,
     event: &Value,
 ) -> Result<String, AllocError>
     ensures { IfOk result (λ name. string_bytes name
-        ≡ specs.event_name_of question (view app.now) appid.now (view event.now)) }
+        ≡ specs.event_name_of question app.now appid.now (view event.now)) }
 {
     match question {
         EventQuestion::Ended => install_name(alloc, app, appid, event),
@@ -185,12 +186,12 @@ fn is_install(event: &Value) -> bool
 // From the event's previous version, or else the app's version, to the event's next version.
 fn install_name(
     alloc: Global,
-    app: &Value,
+    app: &LogApp<'_>,
     appid: &str,
     event: &Value,
 ) -> Result<String, AllocError>
     ensures { IfOk result (λ name. string_bytes name
-        ≡ specs.install_name (view app.now) appid.now (view event.now)) }
+        ≡ specs.install_name app.now appid.now (view event.now)) }
 {
     three(alloc, appid, from_version(app, event), to_version(event))
 }
@@ -201,18 +202,23 @@ fn to_version<'a>(event: &'a Value) -> &'a str
     text_or_mark(text_in(event, "nextversion"))
 }
 
-fn from_version<'a>(app: &'a Value, event: &'a Value) -> &'a str
-    ensures { result.now ≡ specs.from_version (view app.now) (view event.now) }
+fn from_version<'a>(app: &LogApp<'a>, event: &'a Value) -> &'a str
+    ensures { result.now ≡ specs.from_version app.now (view event.now) }
 {
     match text_in(event, "previousversion") {
         Some(version) => version,
-        None => text_or_mark(text_in(app, "version")),
+        None => text_or_mark(app.version),
     }
 }
 
-fn result_name(alloc: Global, app: &Value, appid: &str, event: &Value) -> Result<String, AllocError>
+fn result_name(
+    alloc: Global,
+    app: &LogApp<'_>,
+    appid: &str,
+    event: &Value,
+) -> Result<String, AllocError>
     ensures { IfOk result (λ name. string_bytes name
-        ≡ specs.result_name (view app.now) appid.now (view event.now)) }
+        ≡ specs.result_name app.now appid.now (view event.now)) }
 {
     let text = result_text(alloc, number_in(event, "eventresult"))?;
     let install = install_name(alloc, app, appid, event)?;

@@ -15,6 +15,7 @@ mod exposition;
 mod labels;
 mod line_names;
 mod log_events;
+mod log_line;
 mod log_lines;
 mod metrics;
 mod name_text;

@@ -1,9 +1,11 @@
-//! Which lines are the server's: events, as JSON values.
+//! The members of an object of JSON, and which lines are the server's.
 
 ghost use Rattle.std.specs.Prelude.{◌≡◌, IfOk, codes, option_map};
 ghost use Rattle.std.specs.Option.{option_copied};
 ghost use Rattle.serde_json.specs.View.{view, items_view};
 ghost use Rattle.report.specs.LogEvents as specs;
+ghost use Rattle.report.specs.Members.{line_members};
+ghost use Rattle.report.specs.Windows as windows;
 
 use crate::window::Window;
 use json_value::read_json;
@@ -67,63 +69,38 @@ pub(crate) fn is_number(n: u64, found: Option<u64>) -> bool
     }
 }
 
-/// Whether a line is of this kind.
-pub(crate) fn is_kind(kind: &str, line: &Value) -> bool
-    ensures { result ≡ specs.is_kind kind.now (view line.now) }
+/// Whether the text is there, and is this one.
+pub(crate) fn is_text(text: &str, found: Option<&str>) -> bool
+    ensures { result ≡ specs.is_text text.now (option_copied found.entry) }
 {
-    match text_in(line, "kind") {
-        Some(found) => found == kind,
+    match found {
+        Some(found) => found == text,
         None => false,
     }
 }
 
-/// The apps of a line, if it is a connection's.
-pub(crate) fn apps_in<'a>(line: &'a Value) -> Option<&'a [Value]>
-    ensures { option_map (λ list. items_view list.now) result
-        ≡ specs.apps_in (view line.now) }
-{
-    if !is_kind("connection", line) {
-        return None;
-    }
-    list_in(line, "apps")
-}
-
-/// The event of a line, if the line is the server's.
-pub(crate) fn event_in(alloc: Global, line: &[u8]) -> Result<Option<Value>, AllocError>
-    ensures { IfOk result (λ v. option_map view v ≡ specs.event_in line.now) }
+/// The JSON value of a line, unless the line is too long for a server's.
+pub(crate) fn value_in(alloc: Global, line: &[u8]) -> Result<Option<Value>, AllocError>
+    ensures { IfOk result (λ v. option_map view v ≡ windows.value_in line.now) }
 {
     if line.len() > LINE_LIMIT {
         return Ok(None);
     }
-    match read_json(alloc, line)? {
-        Some(value) => Ok(if_event(value)),
-        None => Ok(None),
-    }
+    read_json(alloc, line)
 }
 
-fn if_event(value: Value) -> Option<Value>
-    ensures { option_map view result ≡ specs.if_event (view value) }
+/// Whether a line has a time and a kind.
+pub(crate) fn is_event(line: &Value) -> bool
+    ensures { result ≡ windows.is_event (line_members (view line.now)) }
 {
-    if is_event(&value) {
-        return Some(value);
-    }
-    drop(value);
-    None
+    text_in(line, "time").is_some() && text_in(line, "kind").is_some()
 }
 
-// Whether it has a time and a kind.
-fn is_event(value: &Value) -> bool
-    ensures { result ≡ specs.is_event (view value.now) }
+/// Whether a line is in the window.
+pub(crate) fn is_within(window: &Window<'_>, line: &Value) -> bool
+    ensures { result ≡ windows.is_within window.now (specs.text_in (codes "time") (view line.now)) }
 {
-    text_in(value, "time").is_some() && text_in(value, "kind").is_some()
-}
-
-/// Whether an event is in the window.
-pub(crate) fn is_within(window: &Window<'_>, event: &Value) -> bool
-    ensures { result ≡ specs.is_within window.now
-        (specs.text_in (codes "time") (view event.now)) }
-{
-    match text_in(event, "time") {
+    match text_in(line, "time") {
         Some(time) => window.has(time),
         None => false,
     }

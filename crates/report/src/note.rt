@@ -1,7 +1,6 @@
 //! Counts a line in the tables.
 
 ghost use Rattle.std.specs.Prelude.{OnOk};
-ghost use Rattle.serde_json.specs.View.{view, items_view};
 ghost use Rattle.report.specs.Counts.{NotesEach};
 ghost use Rattle.report.specs.Events.{event_names};
 ghost use Rattle.report.specs.Names as specs;
@@ -13,10 +12,9 @@ use crate::app_names::{app_name_of, is_about_app};
 use crate::chart_names::note_chart;
 use crate::events::note_events;
 use crate::line_names::{is_about_line, line_name_of};
-use crate::log_events::{apps_in, text_in};
+use crate::log_line::{LogApp, LogLine};
 use crate::question::{AppQuestion, EventQuestion, LineQuestion, QUESTIONS, Question};
 use crate::tally::{Tally, note_nothing};
-use serde_json::Value;
 use std::alloc::{AllocError, Global};
 
 /// Counts a line in the table of each question.
@@ -24,9 +22,9 @@ pub(crate) fn note_questions(
     alloc: Global,
     drawn: bool,
     tallies: &mut Vec<Tally>,
-    line: &Value,
+    line: &LogLine<'_>,
 ) -> Result<(), AllocError>
-    ensures { OnOk result (NotesEach (λ question. names_of drawn question (view line.now))
+    ensures { OnOk result (NotesEach (λ question. names_of drawn question line.now)
         QUESTIONS tallies.old.items tallies.new.items) }
 {
     note_each(alloc, drawn, &QUESTIONS, tallies.as_mut_slice(), line)
@@ -37,9 +35,9 @@ fn note_each(
     drawn: bool,
     questions: &[Question],
     tallies: &mut [Tally],
-    line: &Value,
+    line: &LogLine<'_>,
 ) -> Result<(), AllocError>
-    ensures { OnOk result (NotesEach (λ question. names_of drawn question (view line.now))
+    ensures { OnOk result (NotesEach (λ question. names_of drawn question line.now)
         questions.now tallies.old tallies.new) }
 {
     let mut left = questions;
@@ -58,9 +56,9 @@ fn note_question(
     drawn: bool,
     question: Question,
     tally: &mut Tally,
-    line: &Value,
+    line: &LogLine<'_>,
 ) -> Result<(), AllocError>
-    ensures { OnOk result (Notes tally.old tally.new (names_of drawn question (view line.now))) }
+    ensures { OnOk result (Notes tally.old tally.new (names_of drawn question line.now)) }
 {
     match question {
         Question::Line(question) => note_line(alloc, tally, question, line),
@@ -81,10 +79,10 @@ fn note_line(
     alloc: Global,
     tally: &mut Tally,
     question: LineQuestion,
-    line: &Value,
+    line: &LogLine<'_>,
 ) -> Result<(), AllocError>
     ensures { OnOk result (Notes tally.old tally.new
-        (specs.line_names question (view line.now))) }
+        (specs.line_names question line.now)) }
 {
     if !is_about_line(question, line) {
         return note_nothing(tally);
@@ -98,14 +96,11 @@ pub(crate) fn note_apps(
     alloc: Global,
     tally: &mut Tally,
     question: AppQuestion,
-    line: &Value,
+    line: &LogLine<'_>,
 ) -> Result<(), AllocError>
-    ensures { OnOk result (Notes tally.old tally.new (specs.app_names question (view line.now))) }
+    ensures { OnOk result (Notes tally.old tally.new (specs.app_names question line.now)) }
 {
-    match apps_in(line) {
-        Some(apps) => note_each_app(alloc, tally, question, line, apps),
-        None => note_nothing(tally),
-    }
+    note_each_app(alloc, tally, question, line, line.apps.as_slice())
 }
 
 /// Counts the ends of installs in the line.
@@ -113,25 +108,22 @@ pub(crate) fn note_ends(
     alloc: Global,
     tally: &mut Tally,
     question: EventQuestion,
-    line: &Value,
+    line: &LogLine<'_>,
 ) -> Result<(), AllocError>
-    ensures { OnOk result (Notes tally.old tally.new (event_names question (view line.now))) }
+    ensures { OnOk result (Notes tally.old tally.new (event_names question line.now)) }
 {
-    match apps_in(line) {
-        Some(apps) => note_events(alloc, tally, question, apps),
-        None => note_nothing(tally),
-    }
+    note_events(alloc, tally, question, line.apps.as_slice())
 }
 
 fn note_each_app(
     alloc: Global,
     tally: &mut Tally,
     question: AppQuestion,
-    line: &Value,
-    apps: &[Value],
+    line: &LogLine<'_>,
+    apps: &[LogApp<'_>],
 ) -> Result<(), AllocError>
     ensures { OnOk result (Notes tally.old tally.new
-        (specs.names_of_apps question (view line.now) (items_view apps.now))) }
+        (specs.names_of_apps question line.now apps.now)) }
 {
     let mut left = apps;
     while let [app, rest @ ..] = left {
@@ -145,13 +137,13 @@ fn note_app(
     alloc: Global,
     tally: &mut Tally,
     question: AppQuestion,
-    line: &Value,
-    app: &Value,
+    line: &LogLine<'_>,
+    app: &LogApp<'_>,
 ) -> Result<(), AllocError>
     ensures { OnOk result (Notes tally.old tally.new
-        (specs.listed (specs.app_name question (view line.now) (view app.now)))) }
+        (specs.listed (specs.app_name question line.now app.now))) }
 {
-    match text_in(app, "appid") {
+    match app.appid {
         Some(appid) => {
             if !is_about_app(question, line, app) {
                 return note_nothing(tally);

@@ -2,7 +2,7 @@
 
 ghost use Rattle.std.specs.Prelude.{◌≡◌, Some};
 ghost use Rattle.std.specs.Option.{option_copied};
-ghost use Rattle.report.specs.LogEvents as specs;
+ghost use Rattle.report.specs.Windows as specs;
 
 /// Times in the form of a server's log, in UTC with milliseconds, such as
 /// `2026-11-24T12:19:16.042Z`.

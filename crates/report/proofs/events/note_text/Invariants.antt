@@ -1,5 +1,4 @@
 use Rattle.std.proofs.Common.{length}
-use Rattle.serde_json.specs.View.{view}
 use Rattle.report.specs.Events.{names_after, names_in_text}
 use Rattle.report.specs.Objects.{json_place}
 use Rattle.report.specs.Tallies.{Notes}
@@ -10,8 +9,8 @@ use Rattle.report.proofs.events.note_text.Given as goal
 abbrev pub invariant-loop-left : goal.invariant-loop-left
 invariant-loop-left l = (last : Tally)
     → Notes l.tally last
-    (names_after l.question (view l.app) l.appid (json_place l.reader) l.left)
-    → Notes l.fn.tally last (names_in_text l.question (view l.app) l.appid l.text)
+    (names_after l.question l.app l.appid (json_place l.reader) l.left)
+    → Notes l.fn.tally last (names_in_text l.question l.app l.appid l.text)
 
 abbrev pub decreases-loop-left : goal.decreases-loop-left
 decreases-loop-left l = length l.left

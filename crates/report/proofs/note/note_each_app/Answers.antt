@@ -1,6 +1,5 @@
 use Rattle.std.proofs.Common.{refl, arith, List}
-use Rattle.serde_json.specs.View.{view, items_view}
-use Rattle.serde_json.specs.declared.value.Value.{Value}
+use Rattle.report.specs.Members.{AppMembers}
 use Rattle.report.specs.Names.{names_of_apps}
 use Rattle.report.proofs.Loops.{all_noted, first_rest, more_noted, none_left}
 use Rattle.report.proofs.note.note_each_app.Goals as goal
@@ -8,7 +7,7 @@ use Rattle.report.proofs.note.note_each_app.Goals as goal
 pub loop-left-preserved : goal.loop-left-preserved
 loop-left-preserved c = λ last rest.
     more_noted
-    (λ (vs : List Value). names_of_apps c.args.question (view c.args.line.now) (items_view vs))
+    (λ (vs : List AppMembers). names_of_apps c.args.question c.args.line.now vs)
     _ _ _ _ c.loop-left.invariant _ _ _ _ last
     (first_rest c.loop-left.left.now c.app-item.result (omega arith) c.app-item.is) refl
     c.in_ok-note_app.ensures rest
@@ -16,5 +15,5 @@ loop-left-preserved c = λ last rest.
 pub returns : goal.returns
 returns c =
     all_noted
-    (λ (vs : List Value). names_of_apps c.args.question (view c.args.line.now) (items_view vs))
+    (λ (vs : List AppMembers). names_of_apps c.args.question c.args.line.now vs)
     _ _ _ _ c.loop-left.invariant (none_left c.loop-left.left.now (omega arith)) refl

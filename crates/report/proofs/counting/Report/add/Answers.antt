@@ -8,12 +8,12 @@ returns c = record {
   lines_counted = c.raised-self.ensures;
   foreign = stays c.args.self.now.foreign;
   lost = subst (λ (k : ℕ). GoesUp c.args.self.now.lost c.raised-self-2.result k)
-      c.number_in_kind-lost.ensures c.raised-self-2.ensures;
+      c.lost_in-lost.ensures c.raised-self-2.ensures;
   left_out = subst (λ (k : ℕ). GoesUp c.args.self.now.left_out c.raised-self-3.result k)
-      c.number_in_kind-left_out.ensures c.raised-self-3.ensures;
+      c.left_out_in-left_out.ensures c.raised-self-3.ensures;
   offers_left_out =
       subst (λ (k : ℕ). GoesUp c.args.self.now.offers_left_out c.raised-self-4.result k)
-      c.number_in_kind-offers.ensures c.raised-self-4.ensures;
+      c.offers_left_out_in-offers.ensures c.raised-self-4.ensures;
   drawn = refl;
   tallies = c.in_ok-note_questions.ensures;
 }

@@ -1,0 +1,155 @@
+//! What a report reads of a line, and of the apps in it. It is read once, and then each question
+//! looks at it.
+
+ghost use Rattle.std.specs.Prelude.{◌≡◌, IfOk};
+ghost use Rattle.serde_json.specs.View.{view, items_view};
+ghost use Rattle.report.specs.Members as specs;
+ghost use Rattle.report.specs.Windows.{is_kind};
+
+use crate::log_events::{flag_in, is_text, list_in, number_in, text_in};
+use serde_json::Value;
+use std::alloc::{AllocError, Global};
+use std::marker::Model;
+
+/// The members of an app.
+#[derive(Drop)]
+pub(crate) struct LogApp<'a> {
+    pub(crate) appid: Option<&'a str>,
+    pub(crate) version: Option<&'a str>,
+    pub(crate) release: Option<&'a str>,
+    pub(crate) event: Option<&'a str>,
+    pub(crate) choice: Option<u64>,
+    pub(crate) bucket: Option<u64>,
+    pub(crate) event_left_out: Option<u64>,
+    pub(crate) unknown: Option<bool>,
+    pub(crate) named: Option<bool>,
+}
+
+impl<'a> Model for LogApp<'a> {
+    ghost use Rattle.std.specs.Option.{option_copied};
+    ghost use Rattle.report.specs.Members.{AppMembers};
+
+    ghost Value = { AppMembers };
+
+    ghost view = { λ a. record {
+      appid = option_copied a.appid;
+      version = option_copied a.version;
+      release = option_copied a.release;
+      event = option_copied a.event;
+      choice = a.choice;
+      bucket = a.bucket;
+      event_left_out = a.event_left_out;
+      unknown = a.unknown;
+      named = a.named;
+    } };
+}
+
+/// The members of a line, with the apps of a connection.
+#[derive(Drop)]
+pub(crate) struct LogLine<'a> {
+    pub(crate) time: Option<&'a str>,
+    pub(crate) kind: Option<&'a str>,
+    pub(crate) refusal: Option<&'a str>,
+    pub(crate) path: Option<&'a str>,
+    pub(crate) status: Option<u64>,
+    pub(crate) generation: Option<u64>,
+    pub(crate) lines: Option<u64>,
+    pub(crate) left_out: Option<u64>,
+    pub(crate) offers_left_out: Option<u64>,
+    pub(crate) id: Option<bool>,
+    pub(crate) apps: Vec<LogApp<'a>>,
+}
+
+impl<'a> Model for LogLine<'a> {
+    ghost use Rattle.std.specs.Option.{option_copied};
+    ghost use Rattle.report.specs.Members.{LineMembers};
+
+    ghost Value = { LineMembers };
+
+    ghost view = { λ l. record {
+      time = option_copied l.time;
+      kind = option_copied l.kind;
+      refusal = option_copied l.refusal;
+      path = option_copied l.path;
+      status = l.status;
+      generation = l.generation;
+      lines = l.lines;
+      left_out = l.left_out;
+      offers_left_out = l.offers_left_out;
+      id = l.id;
+      apps = l.apps.items;
+    } };
+}
+
+impl<'a> LogApp<'a> {
+    fn of(app: &'a Value) -> LogApp<'a>
+        ensures { result ≡ specs.app_members (view app.now) }
+    {
+        LogApp {
+            appid: text_in(app, "appid"),
+            version: text_in(app, "version"),
+            release: text_in(app, "release"),
+            event: text_in(app, "event"),
+            choice: number_in(app, "choice"),
+            bucket: number_in(app, "bucket"),
+            event_left_out: number_in(app, "event_left_out"),
+            unknown: flag_in(app, "unknown"),
+            named: flag_in(app, "named"),
+        }
+    }
+}
+
+// The members of each app.
+fn each_app<'a>(alloc: Global, values: &'a [Value]) -> Result<Vec<LogApp<'a>>, AllocError>
+    ensures { IfOk result (λ apps. apps.items ≡ specs.each_app (items_view values.now)) }
+{
+    let mut apps = Vec::with_capacity(alloc, values.len())?;
+    let mut left = values;
+    while let [value, rest @ ..] = left {
+        apps.push(LogApp::of(value))?;
+        left = rest;
+    }
+    Ok(apps)
+}
+
+// The apps of a line, if it is a connection's.
+fn apps_in<'a>(alloc: Global, line: &'a Value) -> Result<Vec<LogApp<'a>>, AllocError>
+    ensures { IfOk result (λ apps. apps.items ≡ specs.apps_in (view line.now)) }
+{
+    if !is_text("connection", text_in(line, "kind")) {
+        return Ok(Vec::new(alloc));
+    }
+    match list_in(line, "apps") {
+        Some(values) => each_app(alloc, values),
+        None => Ok(Vec::new(alloc)),
+    }
+}
+
+impl<'a> LogLine<'a> {
+    /// The members of a line.
+    pub(crate) fn of(alloc: Global, line: &'a Value) -> Result<LogLine<'a>, AllocError>
+        ensures { IfOk result (λ members. members ≡ specs.line_members (view line.now)) }
+    {
+        let apps = apps_in(alloc, line)?;
+        Ok(LogLine {
+            time: text_in(line, "time"),
+            kind: text_in(line, "kind"),
+            refusal: text_in(line, "refusal"),
+            path: text_in(line, "path"),
+            status: number_in(line, "status"),
+            generation: number_in(line, "generation"),
+            lines: number_in(line, "lines"),
+            left_out: number_in(line, "left_out"),
+            offers_left_out: number_in(line, "offers_left_out"),
+            id: flag_in(line, "id"),
+            apps,
+        })
+    }
+
+    /// Whether the line is of this kind.
+    pub(crate) fn is_kind(&self, kind: &str) -> bool
+        ensures { result ≡ is_kind kind.now self.now }
+    {
+        is_text(kind, self.kind)
+    }
+}
