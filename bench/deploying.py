@@ -38,7 +38,8 @@ def verified_units(folder):
 
 
 def page_units(folder):
-    """What systemd reports about the unit of the page, and about its timer."""
+    """What systemd reports about the unit of the page and about its timer, and what the unit's
+    command writes."""
     needs("systemd-analyze")
     host = Host(folder / "page")
     service, timer = (host.file(f"rollout-report.{it}") for it in ("service", "timer"))
@@ -49,6 +50,12 @@ def page_units(folder):
     status, text = called("systemd-analyze", *words, str(service))
     if status != 0:
         return text.splitlines()[-1]
+    page = host.top / "run" / "rollout-report" / "index.html"
+    page.parent.mkdir()
+    host.log().write_text('{"time":"2026-11-30T12:00:00.000Z","kind":"start"}\n')
+    found = host.command(service, "ExecStart")
+    if found[0] != 0 or "<h1>" not in page.read_text():
+        return f"{found}"
 
 
 def settings(text):
