@@ -48,14 +48,6 @@ is_lost kind.Gain = false
 abbrev pub some_lost : (all : List Release) → List Row → Bool
 some_lost all rows = list_any (λ row. is_lost (kind_in all row)) rows
 
--- the mark in a table
-abbrev pub mark_of : RowKind → List ℕ
-mark_of kind.Lost = codes "lost"
-mark_of kind.Older = codes "lost"
-mark_of kind.Changed = codes "changed"
-mark_of kind.Newer = codes ""
-mark_of kind.Gain = codes ""
-
 -- the name in JSON
 abbrev pub name_of : RowKind → List ℕ
 name_of kind.Lost = codes "lost"

@@ -3,5 +3,4 @@ pub mod Conditions
 pub mod Grants
 pub mod Tables
 pub mod Shown
-pub mod Lines
 pub mod Objects

@@ -27,8 +27,8 @@ fn are_grants(dimensions: &[Dimension], sets: &[SegmentSet]) -> bool
     true
 }
 
-/// Appends texts, each after `and`.
-pub(crate) fn push_and_texts(text: &mut String, texts: &[String]) -> Result<(), AllocError>
+// Appends texts, each after `and`.
+fn push_and_texts(text: &mut String, texts: &[String]) -> Result<(), AllocError>
     ensures { OnOk result
         (Puts text.old text.new (conditions.and_texts (map string_bytes texts.now))) }
 {

@@ -56,9 +56,7 @@ impl RowKind {
     }
 
     /// The mark in a table.
-    pub fn mark(self) -> &'static str
-        ensures { result.now ≡ specs.mark_of self }
-    {
+    pub(crate) fn mark(self) -> &'static str {
         match self {
             RowKind::Lost | RowKind::Older => "lost",
             RowKind::Changed => "changed",

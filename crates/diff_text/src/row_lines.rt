@@ -1,11 +1,5 @@
-//! The table of an app's rows.
+//! The table of an app's rows. No clause says how it looks; rows compare it.
 
-ghost use Rattle.std.specs.Prelude.{◌≡◌, ◌≤◌, ◌++◌, OnOk, map, string_bytes};
-ghost use Rattle.printing.specs.Pushed.{Puts};
-ghost use Rattle.diff_text.specs.Conditions.{and_texts};
-ghost use Rattle.diff_text.specs.Lines as specs;
-
-use crate::condition::push_and_texts;
 use crate::shown::{AppRows, ShownRelease, ShownRow};
 use attrs::Elapsed;
 use moments::CivilDate;
@@ -15,197 +9,82 @@ use std::fmt::Write;
 
 /// The widths of the columns.
 #[derive(Clone, Copy)]
-pub(crate) struct LineWidths {
-    pub title: usize,
-    pub current: usize,
-    pub next: usize,
+struct LineWidths {
+    title: usize,
+    current: usize,
+    next: usize,
 }
 
-// ---- columns
-
-fn version_of(release: &Option<ShownRelease>) -> &str
-    ensures { result.now ≡ specs.version_of release.now }
-{
+fn version_of(release: &Option<ShownRelease>) -> &str {
     match release {
         Some(release) => release.version.as_str(),
         None => "none",
     }
 }
 
-fn widest_current(rows: &[ShownRow]) -> usize
-    ensures { result ≡ specs.widest_current rows.now }
-{
-    let mut most = 9;
-    let mut left = rows;
-    while let [row, others @ ..] = left {
-        most = most.max(width_of(version_of(&row.current)));
-        left = others;
+// The first column is as wide as the title, but at least 15; those of versions are as wide as the
+// widest, but at least 9.
+fn widths_of(title: &str, rows: &[ShownRow]) -> LineWidths {
+    let mut current = 9;
+    let mut next = 9;
+    for row in rows {
+        current = current.max(width_of(version_of(&row.current)));
+        next = next.max(width_of(version_of(&row.next)));
     }
-    most
-}
-
-fn widest_next(rows: &[ShownRow]) -> usize
-    ensures { result ≡ specs.widest_next rows.now }
-{
-    let mut most = 9;
-    let mut left = rows;
-    while let [row, others @ ..] = left {
-        most = most.max(width_of(version_of(&row.next)));
-        left = others;
-    }
-    most
-}
-
-fn widths_of(title: &str, rows: &[ShownRow]) -> LineWidths
-    ensures { result ≡ specs.widths_of title.now rows.now }
-{
     LineWidths {
         title: width_of(title).max(15),
-        current: widest_current(rows),
-        next: widest_next(rows),
+        current,
+        next,
     }
 }
 
-fn push_columns(
-    text: &mut String,
-    widths: LineWidths,
-    title: &str,
-    current: &str,
-    next: &str,
-) -> Result<(), AllocError>
-    ensures { OnOk result (Puts text.old text.new
-        (specs.columns widths title.now current.now next.now)) }
-{
-    push_column(text, widths.title, title)?;
-    push_column(text, widths.current, current)?;
-    push_column(text, widths.next, next)
-}
-
-// ---- rows
-
-// The texts of one list.
-fn push_joined(text: &mut String, texts: &[String]) -> Result<(), AllocError>
-    ensures { OnOk result (Puts text.old text.new
-        (specs.condition_text (map string_bytes texts.now))) }
-{
-    let [first, others @ ..] = texts else {
+// What `and` joins; everybody is in a row without a condition.
+fn push_condition(text: &mut String, row: &ShownRow) -> Result<(), AllocError> {
+    if row.tests.is_empty() && row.grants.is_empty() {
         return text.push_str("everybody");
-    };
-    text.push_str(first.as_str())?;
-    push_and_texts(text, others)
-}
-
-fn push_both(text: &mut String, tests: &[String], grants: &[String]) -> Result<(), AllocError>
-    ensures { OnOk result (Puts text.old text.new
-        (and_texts (map string_bytes tests.now ++ map string_bytes grants.now))) }
-{
-    push_and_texts(text, tests)?;
-    push_and_texts(text, grants)?;
+    }
+    let mut before = "";
+    for test in &row.tests {
+        text.push_str(before)?;
+        text.push_str(test.as_str())?;
+        before = " and ";
+    }
+    for grant in &row.grants {
+        text.push_str(before)?;
+        text.push_str(grant.as_str())?;
+        before = " and ";
+    }
     Ok(())
 }
 
-fn push_condition(text: &mut String, tests: &[String], grants: &[String]) -> Result<(), AllocError>
-    ensures { OnOk result (Puts text.old text.new (specs.condition_text
-        (map string_bytes tests.now ++ map string_bytes grants.now))) }
-{
-    let [first, others @ ..] = tests else {
-        return push_joined(text, grants);
-    };
-    text.push_str(first.as_str())?;
-    push_both(text, others, grants)
-}
-
-fn push_row(text: &mut String, widths: LineWidths, row: &ShownRow) -> Result<(), AllocError>
-    ensures { OnOk result (Puts text.old text.new (specs.row_line widths row.now)) }
-{
-    push_columns(
-        text,
-        widths,
-        "",
-        version_of(&row.current),
-        version_of(&row.next),
-    )?;
+fn push_row(text: &mut String, widths: LineWidths, row: &ShownRow) -> Result<(), AllocError> {
+    push_column(text, widths.title, "")?;
+    push_column(text, widths.current, version_of(&row.current))?;
+    push_column(text, widths.next, version_of(&row.next))?;
     push_column(text, 7, row.kind.mark())?;
-    push_condition(text, &row.tests, &row.grants)?;
+    push_condition(text, row)?;
     text.push_str("\n")
 }
-
-fn push_row_lines(
-    text: &mut String,
-    widths: LineWidths,
-    rows: &[ShownRow],
-) -> Result<(), AllocError>
-    ensures { OnOk result (Puts text.old text.new (specs.row_lines widths rows.now)) }
-{
-    let mut left = rows;
-    while let [row, others @ ..] = left {
-        push_row(text, widths, row)?;
-        left = others;
-    }
-    Ok(())
-}
-
-// ---- days
 
 /// The days from 1970-01-01 to 2007-01-01.
 const FIRST_DAY: u64 = 13514;
 
-fn push_two(text: &mut String, number: u64) -> Result<(), AllocError>
-    ensures { OnOk result (Puts text.old text.new (specs.two_text number)) }
-{
-    if number < 10 {
-        write!(text, "0{number}")
-    } else {
-        write!(text, "{number}")
-    }
-}
-
-fn push_date(text: &mut String, date: CivilDate) -> Result<(), AllocError>
-    ensures { OnOk result (Puts text.old text.new (specs.date_text date)) }
-{
-    let year = date.year;
-    write!(text, "{year}-")?;
-    push_two(text, date.month)?;
-    text.push_str("-")?;
-    push_two(text, date.day)
-}
-
-fn push_date_line(text: &mut String, day: u32) -> Result<(), AllocError>
-    requires { day ≤ 2919382 }
-    ensures { OnOk result (Puts text.old text.new (specs.date_line day)) }
-{
-    write!(text, "  day {day} is ")?;
-    push_date(text, CivilDate::of_day(FIRST_DAY + day as u64))?;
-    text.push_str("\n")
-}
-
-fn push_day(text: &mut String, day: u32) -> Result<(), AllocError>
-    ensures { OnOk result (Puts text.old text.new (specs.day_line day)) }
-{
+// The date of a day, which is counted from 2007-01-01, unless it is after the last one.
+fn push_day(text: &mut String, day: u32) -> Result<(), AllocError> {
     if day > Elapsed::LAST_DAY {
         return Ok(());
     }
-    push_date_line(text, day)
-}
-
-fn push_days(text: &mut String, days: &[u32]) -> Result<(), AllocError>
-    ensures { OnOk result (Puts text.old text.new (specs.day_lines days.now)) }
-{
-    let mut left = days;
-    while let [day, others @ ..] = left {
-        push_day(text, *day)?;
-        left = others;
-    }
-    Ok(())
+    let date = CivilDate::of_day(FIRST_DAY + day as u64);
+    let year = date.year;
+    let month = date.month;
+    let number = date.day;
+    writeln!(text, "  day {day} is {year}-{month:02}-{number:02}")
 }
 
 /// Appends the table of an app's rows: a head that begins with this title, the rows, and the dates
 /// of their days. Without rows it appends nothing. The title must have no controls.
-// open: whether an allocation fails.
-pub fn push_rows(text: &mut String, title: &str, rows: &AppRows) -> Result<(), AllocError>
-    ensures { OnOk result (Puts text.old text.new
-        (specs.rows_text title.now rows.now)) }
-{
+// open: whether an allocation fails; how the table looks: rows.
+pub fn push_rows(text: &mut String, title: &str, rows: &AppRows) -> Result<(), AllocError> {
     if rows.rows.is_empty() {
         return Ok(());
     }
@@ -213,6 +92,11 @@ pub fn push_rows(text: &mut String, title: &str, rows: &AppRows) -> Result<(), A
     push_column(text, widths.title, title)?;
     push_column(text, widths.current, "now")?;
     text.push_str("next\n")?;
-    push_row_lines(text, widths, &rows.rows)?;
-    push_days(text, &rows.days)
+    for row in &rows.rows {
+        push_row(text, widths, row)?;
+    }
+    for day in &rows.days {
+        push_day(text, *day)?;
+    }
+    Ok(())
 }

@@ -1,6 +1,6 @@
 -- What `diff` prints of two manifests, and why it prints nothing.
 use Rattle.std.specs.Prelude.{◌≡◌, ℕ, List, Option, Some, None, option_copied}
-use Rattle.std.specs.Prelude.{Bool, true, false, not, is_some, if◌then◌else◌}
+use Rattle.std.specs.Prelude.{Bool, true, false, not}
 use Rattle.std.specs.String.{string_bytes}
 use Rattle.bounded_files.specs.declared.resource_fault.ResourceFault.TheVariants as resource
 use Rattle.rule_space.specs.declared.bounds.CellBound.{CellBound}
@@ -10,7 +10,7 @@ use Rattle.manifest_diff.specs.Arrays.{ArrayChange, array_changes}
 use Rattle.manifest_diff.specs.Counters.{are_declared, arrays_in, used_in}
 use Rattle.manifest_diff.specs.Objects.{diff_object}
 use Rattle.manifest_diff.specs.Reports.{AreAppDiffs, have_app, is_lossy}
-use Rattle.manifest_diff.specs.Texts.{diff_text, is_same}
+use Rattle.manifest_diff.specs.Texts.{is_same}
 use Rattle.manifest_diff.specs.declared.diff_fault.DiffFault.{DiffFault}
 use Rattle.manifest_diff.specs.declared.diff_fault.DiffFault.TheVariants as fault
 use Rattle.manifest_diff.specs.declared.opened.OpenedBoth.{OpenedBoth}
@@ -31,22 +31,19 @@ abbrev pub json_of : (old new : List ℕ) → List ArrayChange → List AppDiff 
 json_of old new changes diffs loses =
     json_line (diff_object old new changes diffs loses (is_same old new changes diffs))
 
-module _ (both : OpenedBoth) (changes : List ArrayChange) where
-  -- as lines of all apps or of one, or as JSON
-  abbrev pub text_of : DiffOptions → List AppDiff → (loses : Bool) → List ℕ
-  text_of options diffs loses =
-      if options.json
-      then json_of both.old.server both.new.server changes diffs loses
-      else diff_text both.old.server both.new.server changes
-      (is_some (option_copied options.only)) diffs
+-- as JSON, or as lines: no clause says how these look; rows compare them
+abbrev pub IsTextOf : (json : Bool) → (old new : List ℕ) → List ArrayChange → List AppDiff
+    → (loses : Bool) → List ℕ → Type 0
+IsTextOf true old new changes diffs loses text = text ≡ json_of old new changes diffs loses
+IsTextOf false old new changes diffs loses text = Unit {0}
 
 -- a comparison of the apps, as a text; and whether it loses anything
 pub record IsOutputOf (both : OpenedBoth) (used : List CellBound) (options : DiffOptions)
     (output : DiffOutput) : Type 0 where
   pub diffs : List AppDiff
   pub are_diffs : AreAppDiffs both options.from_day used (option_copied options.only) diffs
-  pub text_is : string_bytes output.text
-      ≡ text_of both (changes_in both) options diffs output.loses
+  pub text_is : IsTextOf options.json both.old.server both.new.server (changes_in both) diffs
+      output.loses (string_bytes output.text)
   pub loses_is : output.loses ≡ is_lossy both diffs
 
 -- with the cells of a server and the given ones

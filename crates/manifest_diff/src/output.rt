@@ -89,8 +89,8 @@ fn text_of(
     options: &DiffOptions<'_>,
     loses: bool,
 ) -> Result<String, AllocError>
-    ensures { IfOk result (λ text. string_bytes text
-        ≡ specs.text_of both.now changes.now options.now diffs.now loses) }
+    ensures { IfOk result (λ text. specs.IsTextOf options.now.json both.now.old.server
+        both.now.new.server changes.now diffs.now loses (string_bytes text)) }
 {
     let (old, new) = (both.old.server.as_str(), both.new.server.as_str());
     if options.json {
@@ -134,7 +134,7 @@ fn output_of(
 ///
 /// Returns B4 if an allocation fails.
 // open: whether an allocation fails; which apps aren't compared; the order of rows, and which days
-// are named.
+// are named; how the lines look: rows.
 pub fn diff_manifests(
     alloc: Global,
     both: &OpenedBoth,

@@ -1,10 +1,10 @@
 use Rattle.std.proofs.Common.{◌≡◌, length}
-use Rattle.manifest_diff.specs.Texts.{all_silent}
+use Rattle.std.specs.List.{list_all}
+use Rattle.manifest_diff.specs.Texts.{is_silent}
 use Rattle.manifest_diff.proofs.lines.all_silent.Given as goal
 
 abbrev pub invariant-loop-left : goal.invariant-loop-left
-invariant-loop-left l =
-    all_silent l.left ≡ all_silent l.diffs
+invariant-loop-left l = list_all is_silent l.left ≡ list_all is_silent l.diffs
 
 abbrev pub decreases-loop-left : goal.decreases-loop-left
 decreases-loop-left l = length l.left
