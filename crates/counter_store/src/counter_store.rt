@@ -1,6 +1,6 @@
 //! The store of a server's counters: their ledger, and the file to which it commits.
 
-ghost use Rattle.std.specs.Prelude.{◌≡◌, [], All, IfOk, IfSome, IsTrue, OnErr, false};
+ghost use Rattle.std.specs.Prelude.{◌≡◌, ◌≢◌, [], All, IfOk, IfSome, IsTrue, Ok, false, true};
 ghost use Rattle.std.specs.Prelude.{map, string_bytes};
 ghost use Rattle.std.specs.Arc.{arc_value};
 ghost use Rattle.cells.specs.Events.{AreCells};
@@ -105,10 +105,12 @@ impl<F: KeptFile + Drop> CounterStore<F> {
               halted = map string_bytes self.old.halted.items;
               counters = counters self.new.ledger.arrays self.new.ledger.numbers;
             })))) }
-        ensures failed { OnErr result (self.new.ledger.raised ≡ self.old.ledger.raised) }
+        ensures same { result ≢ Ok true → (self.new.ledger.numbers ≡ self.old.ledger.numbers)
+            × (self.new.ledger.raised ≡ self.old.ledger.raised) }
     {
         let is_new = self.ledger.plan();
         if !is_new && !self.has_news {
+            self.ledger.kept().set_failing(false);
             return Ok(false);
         }
         let directory = self.ledger.directory();

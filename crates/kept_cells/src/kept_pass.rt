@@ -118,6 +118,13 @@ impl KeptPass {
         }
     }
 
+    /// Notes that a reply waited in vain, as if a commit had failed.
+    pub(crate) fn set_failing(&self) {
+        if let Some(owing) = &self.owing {
+            owing.set_failing();
+        }
+    }
+
     /// Whether the last commit failed. So it is without ceilings.
     pub(crate) fn is_failing(&self) -> bool {
         match &self.owing {

@@ -206,7 +206,10 @@ impl Owing {
         self.kept.ring();
     }
 
-    /// Whether the last commit failed.
+    pub(crate) fn set_failing(&self) {
+        self.kept.set_failing(true);
+    }
+
     pub(crate) fn is_failing(&self) -> bool {
         self.kept.is_failing()
     }

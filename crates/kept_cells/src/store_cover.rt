@@ -50,6 +50,8 @@ impl<'a, H: Clock> StoreCover<'a, H> {
                 return Some(reader);
             }
         }
+        // The device may hang, so the next replies don't wait for it.
+        pass.set_failing();
         None
     }
 }
