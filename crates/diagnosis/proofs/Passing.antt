@@ -1,16 +1,14 @@
 -- From what was gathered and judged to the report.
-use Rattle.std.proofs.Common.{◌≡◌, ℕ, List, [], ◌++◌, length, string_bytes, ◌∙◌, ap, subst}
-use Rattle.std.proofs.Common.{All, refl, sym, inl, inr}
+use Rattle.std.proofs.Common.{◌≡◌, ℕ, List, [], ◌++◌, length, ◌∙◌, ap, subst}
+use Rattle.std.proofs.Common.{All, refl, sym, inl}
 use Rattle.diagnosis.specs.Check.{FailsApps, FailsCheck, PassesApps, PassesCheck, ReportsJudged}
 use Rattle.diagnosis.specs.Check.{files, no_file}
-use Rattle.diagnosis.specs.Texts.{accepted_text}
 use Rattle.diagnosis.specs.Reported.{ReportsRefused}
 use Rattle.diagnosis.specs.ArrayWarnings.{array_warnings}
 use Rattle.diagnosis.specs.Warned.{WarnsOfApps}
 use Rattle.diagnosis.specs.declared.accepted.CheckedManifest.{CheckedManifest}
 use Rattle.diagnosis.specs.declared.refused.Refused.{Refused}
 use Rattle.bounded_files.specs.Files.{KnownFiles}
-use Rattle.cells.specs.Directory.{Declaration}
 use Rattle.cells.specs.declared.array.CellArray.{CellArray}
 use Rattle.load.specs.Sources.{AreArraysWithFault, AreSources, HasItsReleases}
 use Rattle.load.specs.Sources.{IsParsedWithFault, IsSourcesRefusal}
@@ -33,21 +31,16 @@ use Rattle.warnings.specs.declared.warning.Warning.{Warning}
 
 pub reports_judged : (j : JudgedManifest) (reported : CheckedManifest)
     (lent_apps : List JudgedApp) (by_rule lent : List Warning) (directory : List CellArray)
-    (shown : List Declaration) (supplied other : List AppRule) → lent_apps ≡ j.apps.items
+    (other : List AppRule) → lent_apps ≡ j.apps.items
     → directory ≡ j.directory → reported.arrays.items ≡ j.arrays.items
-    → shown ≡ reported.arrays.items → supplied ≡ reported.apps.items
     → other ≡ reported.apps.items → reported.apps.items ≡ app_rules j.apps.items
-    → string_bytes reported.text ≡ accepted_text shown supplied
     → WarnsOfApps 1 whole_budget lent_apps by_rule → lent ≡ by_rule
     → reported.warnings.items ≡ array_warnings 0 directory other ++ lent
     → reported.digest ≡ j.digest → ReportsJudged j reported
-reports_judged j reported lent_apps by_rule lent directory shown supplied other lent_are
-    directory_is arrays_are shown_are supplied_are other_are apps_are text_is of_apps same
-    warnings_are digest_is = record {
+reports_judged j reported lent_apps by_rule lent directory other lent_are directory_is arrays_are
+    other_are apps_are of_apps same warnings_are digest_is = record {
       arrays_are = arrays_are;
       apps_are = apps_are;
-      text_is = text_is ∙ ap (λ (l : List Declaration). accepted_text l supplied) shown_are
-          ∙ ap (λ (l : List AppRule). accepted_text reported.arrays.items l) supplied_are;
       warned = record {
         reported = by_rule;
         of_apps = subst (λ (l : List JudgedApp). WarnsOfApps 1 whole_budget l by_rule) lent_are
@@ -137,17 +130,14 @@ fails_by g back fault r refuses same is reported = record {
       reported;
 }
 
--- out of memory, which is reported without lines
-pub nothing_reported : (g : Sources) (r : Refused) → r.fault ≡ Memory → string_bytes r.reason ≡ []
-    → string_bytes r.own ≡ [] → r.further.items ≡ [] → r.left_out ≡ 0
-    → r.read ≡ length g.apps.items → r.unread ≡ g.unread → FailsApps g r
-nothing_reported g r is reason own further left_out read unread = record {
+-- out of memory, with no further fault
+pub nothing_reported : (g : Sources) (r : Refused) → r.fault ≡ Memory → r.further.items ≡ []
+    → r.left_out ≡ 0 → r.read ≡ length g.apps.items → r.unread ≡ g.unread → FailsApps g r
+nothing_reported g r is further left_out read unread = record {
   refused = subst (λ (f : LoadFault). RefusesFirst g.apps.items f) (sym is) tt;
   reported = record {
-    own = inl own;
     further = inl (further, left_out);
     read_is = read;
     unread_is = unread;
-    lines = inr (inr reason);
   };
 }

@@ -1,8 +1,7 @@
 -- The results of checking a manifest, which is loaded over no arrays. All are defined by what was
 -- gathered: for each file of an app, the same bytes are judged, shown and tested for warnings.
-use Rattle.std.specs.Prelude.{◌≡◌, ◌<◌, ℕ, List, [], length, string_bytes}
+use Rattle.std.specs.Prelude.{◌≡◌, ◌<◌, ℕ, List, [], length}
 use Rattle.cells.specs.Directory.{Declaration}
-use Rattle.diagnosis.specs.Texts.{accepted_text}
 use Rattle.diagnosis.specs.Reported.{ReportsRefused}
 use Rattle.diagnosis.specs.Warned.{WarnsOf}
 use Rattle.diagnosis.specs.declared.accepted.CheckedManifest.{CheckedManifest}
@@ -22,12 +21,10 @@ use Rattle.ruleset.specs.Rules.{Rules}
 
 -- ---- the gathered apps
 
--- the report has the arrays and the apps of a judged manifest, their lines, the warnings, and the
--- digest
+-- the report has the arrays and the apps of a judged manifest, the warnings, and the digest
 pub record ReportsJudged (j : JudgedManifest) (reported : CheckedManifest) : Type 0 where
   pub arrays_are : reported.arrays.items ≡ j.arrays.items
   pub apps_are : reported.apps.items ≡ app_rules j.apps.items
-  pub text_is : string_bytes reported.text ≡ accepted_text reported.arrays.items reported.apps.items
   pub warned : WarnsOf j reported.warnings.items
   pub digest_is : reported.digest ≡ j.digest
 

@@ -1,12 +1,7 @@
-pub mod Texts
-pub mod Advice
 pub mod Inside
-pub mod Shown
 pub mod ArrayWarnings
 pub mod Warned
 pub mod Added
-pub mod Reason
-pub mod Lines
 pub mod Undeclared
 pub mod SchemaErrors
 pub mod AllDuplicates

@@ -1,8 +1,7 @@
--- The report on a refused manifest: where and why, the further faults, and the lines of these.
-use Rattle.std.specs.Prelude.{◌≡◌, ◌⊎◌, ℕ, ◌-◌, List, [], length, take, map, All, string_bytes}
+-- The report on a refused manifest: the further faults, and how many more there are. No clause says
+-- the words; rows compare them.
+use Rattle.std.specs.Prelude.{◌≡◌, ◌⊎◌, ℕ, ◌-◌, List, [], length, take, map}
 use Rattle.diagnosis.specs.Further.{AreFurther}
-use Rattle.diagnosis.specs.Lines.{AreRefusalLines}
-use Rattle.diagnosis.specs.Reason.{IsReason}
 use Rattle.diagnosis.specs.declared.refused.Refused.{Refused}
 use Rattle.diagnosis.specs.declared.refused.FaultReport.{FaultReport}
 use Rattle.cells.specs.Directory.{Declaration}
@@ -14,18 +13,8 @@ use Rattle.manifest.specs.declared.refused.Parsed.{Parsed}
 abbrev pub most_further : ℕ
 most_further = 9
 
-module _ (arrays : List Declaration) (apps : List AppSources) where
-  -- where and why, or nothing if out of memory
-  abbrev pub IsReasonOrEmpty : LoadFault → List ℕ → Type 0
-  IsReasonOrEmpty fault reason = (reason ≡ []) ⊎ IsReason arrays apps fault reason
-
-  abbrev pub IsFaultReport : FaultReport → Type 0
-  IsFaultReport reported = IsReasonOrEmpty reported.fault (string_bytes reported.reason)
-
-  -- these faults, in order
-  pub record AreFaultReports (faults : List LoadFault) (reported : List FaultReport) : Type 0 where
-    pub faults_are : map (λ (t : FaultReport). t.fault) reported ≡ faults
-    pub each : All IsFaultReport reported
+abbrev pub faults_in : List FaultReport → List LoadFault
+faults_in reported = map (λ (t : FaultReport). t.fault) reported
 
 module _ (parsed : Parsed) (arrays : List Declaration) (apps : List AppSources) where
   -- the first nine of the further faults, and how many more there are
@@ -34,7 +23,7 @@ module _ (parsed : Parsed) (arrays : List Declaration) (apps : List AppSources) 
     where
       pub faults : List LoadFault
       pub further : AreFurther parsed arrays apps fault faults
-      pub first : AreFaultReports arrays apps (take most_further faults) reported
+      pub first : faults_in reported ≡ take most_further faults
       pub left_out_is : left_out ≡ length faults - most_further
 
   -- those, or none if out of memory
@@ -44,9 +33,6 @@ module _ (parsed : Parsed) (arrays : List Declaration) (apps : List AppSources) 
 
   -- the whole report, if after these apps there are `unread` ones whose files aren't read
   pub record ReportsRefused (unread : ℕ) (r : Refused) : Type 0 where
-    pub own : IsReasonOrEmpty arrays apps r.fault (string_bytes r.own)
     pub further : ReportsOthers r.fault r.further.items r.left_out
     pub read_is : r.read ≡ length apps
     pub unread_is : r.unread ≡ unread
-    pub lines : AreRefusalLines (string_bytes r.own) r.further.items r.left_out r.read r.unread
-        (string_bytes r.reason)

@@ -1,9 +1,7 @@
 //! The report on an accepted manifest.
 
-ghost use Rattle.std.specs.Prelude.{◌≡◌, flat_map, All, IfOk, OnOk, string_bytes};
-ghost use Rattle.printing.specs.Pushed.{Puts};
+ghost use Rattle.std.specs.Prelude.{All, IfOk};
 ghost use Rattle.diagnosis.specs.Check.{ReportsJudged};
-ghost use Rattle.diagnosis.specs.Texts.{accepted_text, array_line, printed_app_line};
 ghost use Rattle.load.specs.Sources.{HasItsReleases};
 ghost use Rattle.load.specs.JudgedApps.{IsJudgedApp, sources_of};
 
@@ -11,10 +9,9 @@ use crate::warned::{warning_text, warnings_of_apps};
 use bpf_verify::Verified;
 use declarations::ArrayDeclaration;
 use load::{JudgedManifest, supply};
-use printing::Printed;
+use printing::TextBuffer;
 use ruleset::App;
 use std::alloc::{AllocError, Global};
-use std::fmt::Write;
 use warnings::Warning;
 
 /// The report on an accepted manifest.
@@ -80,45 +77,18 @@ fn accepted_lines(
     alloc: Global,
     arrays: &[ArrayDeclaration],
     apps: &[App],
-) -> Result<String, AllocError>
-    ensures { IfOk result (λ text. string_bytes text ≡ accepted_text arrays.now apps.now) }
-{
-    let mut text = String::new(alloc);
-    report_arrays(&mut text, arrays)?;
-    push_app_lines(&mut text, apps)?;
-    Ok(text)
-}
-
-fn report_arrays(text: &mut String, arrays: &[ArrayDeclaration]) -> Result<(), AllocError>
-    ensures { OnOk result (Puts text.old text.new (flat_map array_line arrays.now)) }
-{
+) -> Result<String, AllocError> {
+    let mut text = TextBuffer::new(alloc);
     for array in arrays {
-        push_array_line(text, array)?;
+        text.push("array ");
+        text.push_value(array);
+        text.push("\n");
     }
-    Ok(())
-}
-
-fn push_array_line(text: &mut String, array: &ArrayDeclaration) -> Result<(), AllocError>
-    ensures { OnOk result (Puts text.old text.new (array_line array.now)) }
-{
-    writeln!(text, "array {array}")
-}
-
-fn push_app_lines(text: &mut String, apps: &[App]) -> Result<(), AllocError>
-    ensures { OnOk result (Puts text.old text.new (flat_map printed_app_line apps.now)) }
-{
     for app in apps {
-        push_app_line(text, app)?;
+        let program: &Verified = app.program();
+        text.push_printed("app ", app.appid(), "");
+        text.push_number(" releases ", app.releases().len() as u64, "");
+        text.push_number(" slots ", program.len() as u64, "\n");
     }
-    Ok(())
-}
-
-fn push_app_line(text: &mut String, app: &App) -> Result<(), AllocError>
-    ensures { OnOk result (Puts text.old text.new (printed_app_line app.now)) }
-{
-    let program: &Verified = app.program();
-    let appid = Printed(app.appid());
-    let releases = app.releases().len();
-    let slots = program.len();
-    writeln!(text, "app {appid} releases {releases} slots {slots}")
+    text.finish()
 }

@@ -1,14 +1,9 @@
 //! A hint printed with a schema error: for an unknown member, the known members; for a list of
-//! tables, how its tables begin.
-
-ghost use Rattle.std.specs.Prelude.{◌≡◌};
-ghost use Rattle.diagnosis.specs.Advice as specs;
+//! tables, how its tables begin. No clause says which; rows compare them.
 
 use manifest::{AppError, ArrayError, InList, PackageError, ReleaseError, SchemaError};
 
-fn package_advice(schema_error: &PackageError) -> &'static str
-    ensures { result.now ≡ specs.package_advice schema_error.now }
-{
+fn package_advice(schema_error: &PackageError) -> &'static str {
     match schema_error {
         PackageError::Unknown(_) => {
             "the members of a package: name, hash_sha256, size, required\n"
@@ -17,9 +12,7 @@ fn package_advice(schema_error: &PackageError) -> &'static str
     }
 }
 
-fn release_advice(schema_error: &ReleaseError) -> &'static str
-    ensures { result.now ≡ specs.release_advice schema_error.now }
-{
+fn release_advice(schema_error: &ReleaseError) -> &'static str {
     match schema_error {
         ReleaseError::Unknown(_) => "the members of a release: version, codebase, package\n",
         ReleaseError::Packages(InList::Count) => {
@@ -30,9 +23,7 @@ fn release_advice(schema_error: &ReleaseError) -> &'static str
     }
 }
 
-fn app_advice(schema_error: &AppError) -> &'static str
-    ensures { result.now ≡ specs.app_advice schema_error.now }
-{
+fn app_advice(schema_error: &AppError) -> &'static str {
     match schema_error {
         AppError::Unknown(_) => "the members of an app: appid, program or rule, release\n",
         AppError::Releases(InList::Count) => "each release begins with [[app.release]]\n",
@@ -41,9 +32,7 @@ fn app_advice(schema_error: &AppError) -> &'static str
     }
 }
 
-fn array_advice(schema_error: &ArrayError) -> &'static str
-    ensures { result.now ≡ specs.array_advice schema_error.now }
-{
+fn array_advice(schema_error: &ArrayError) -> &'static str {
     match schema_error {
         ArrayError::Unknown(_) => "the members of an array: name, width, length, quota\n",
         _ => "",
@@ -51,10 +40,7 @@ fn array_advice(schema_error: &ArrayError) -> &'static str
 }
 
 /// A line, or the empty text.
-#[tactic(auto, unfolding(crate::specs::Advice::advice))]
-pub(crate) fn advice(schema_error: &SchemaError) -> &'static str
-    ensures { result.now ≡ specs.advice schema_error.now }
-{
+pub(crate) fn advice(schema_error: &SchemaError) -> &'static str {
     match schema_error {
         SchemaError::Unknown(_) => "the members of a manifest: server, array, app\n",
         SchemaError::Arrays(InList::Count) => "each array begins with [[array]]\n",

@@ -28,7 +28,6 @@ mod later_faults;
 mod laws;
 mod others;
 mod reason;
-mod refusal_lines;
 mod refusal_report;
 mod refused;
 mod schema_errors;

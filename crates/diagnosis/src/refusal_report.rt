@@ -2,19 +2,18 @@
 
 ghost use Rattle.std.specs.Prelude.{◌≡◌, IfOk, IfSome};
 ghost use Rattle.diagnosis.specs.Further.{AreFurther};
-ghost use Rattle.diagnosis.specs.Reported.{AreFaultReports, IsFaultReport, ReportsFurther};
-ghost use Rattle.diagnosis.specs.Reported.{ReportsOthers};
-ghost use Rattle.diagnosis.specs.Reported.{ReportsRefused};
+ghost use Rattle.diagnosis.specs.Reported.{ReportsFurther, ReportsOthers, ReportsRefused};
+ghost use Rattle.diagnosis.specs.Reported.{faults_in};
 
 use crate::later_faults::faults_after;
 use crate::others::{other_duplicates, other_schema_errors};
 use crate::reason::reason_of;
-use crate::refusal_lines::lines_of;
 use crate::refused::{FaultReport, Refused};
 use crate::undeclared::faults_after_array;
 use declarations::ArrayDeclaration;
 use load::{AppSources, LoadFault};
 use manifest::{ManifestFault, Parsed};
+use printing::TextBuffer;
 use std::alloc::{AllocError, Global};
 
 /// The most faults that are printed after the first.
@@ -136,27 +135,50 @@ fn report_faults(
     apps: &[AppSources],
     faults: Vec<LoadFault>,
 ) -> Result<Vec<FaultReport>, AllocError>
-    ensures { IfOk result (λ v. AreFaultReports arrays.now apps.now faults.items v.items) }
+    ensures { IfOk result (λ v. faults_in v.items ≡ faults.items) }
 {
     let mut all = Vec::new(alloc);
     for fault in faults {
-        let reported = report_fault(alloc, parsed, is_link, arrays, apps, fault);
-        all.push(reported)?;
+        let reason = reason_of(alloc, parsed, is_link, arrays, apps, &fault);
+        all.push(FaultReport { fault, reason })?;
     }
     Ok(all)
 }
 
-fn report_fault(
+// A fault's own lines and those of the further faults, how many more there are, and after which app
+// no file is read. If out of memory, only the fault's own lines, or none.
+fn lines_of(
     alloc: Global,
-    parsed: &Parsed,
-    is_link: bool,
-    arrays: &[ArrayDeclaration],
-    apps: &[AppSources],
-    fault: LoadFault,
-) -> FaultReport
-    ensures fault { result.fault ≡ fault }
-    ensures reported { IsFaultReport arrays.now apps.now result }
-{
-    let reason = reason_of(alloc, parsed, is_link, arrays, apps, &fault);
-    FaultReport { fault, reason }
+    own: &str,
+    further: &[FaultReport],
+    left_out: usize,
+    read: usize,
+    unread: usize,
+) -> String {
+    let mut text = TextBuffer::new(alloc);
+    text.push(own);
+    for report in further {
+        text.push("refused ");
+        text.push_value(&report.fault);
+        text.push("\n");
+        text.push(report.reason.as_str());
+    }
+    if left_out > 0 {
+        text.push_number("and ", left_out as u64, " more\n");
+    }
+    if unread > 0 {
+        text.push_number("after app ", read as u64, " no file is read: ");
+        text.push("those before that are too long have more than 64 MiB\n");
+    }
+    match text.finish() {
+        Ok(text) => text,
+        Err(_) => own_lines(alloc, own),
+    }
+}
+
+fn own_lines(alloc: Global, own: &str) -> String {
+    match String::from_str(alloc, own) {
+        Ok(text) => text,
+        Err(_) => String::new(alloc),
+    }
 }

@@ -1,10 +1,4 @@
-//! The excerpt of an app's file: the place of its fault.
-
-ghost use Rattle.std.specs.Prelude.{◌≡◌, IfSome, string_bytes, if◌then◌else◌};
-ghost use Rattle.diagnosis.specs.Shown.{IsInsnShown, IsKeptShown, IsLongShown};
-ghost use Rattle.diagnosis.specs.Shown.{IsRefusedInsnShown, IsShown, IsSlotShown, IsTextShown};
-ghost use Rattle.diagnosis.specs.Shown as specs;
-ghost use Rattle.rule_diagnosis.specs.Message as reported;
+//! The excerpt of an app's file: the place of its fault. No clause says the words; rows compare them.
 
 use bounded_files::KeptBytes;
 use bpf_insn::decode_at;
@@ -38,9 +32,7 @@ pub(crate) fn show(
     place: Place,
     shape: &Shape,
     kept: &Option<KeptBytes>,
-) -> Option<String>
-    ensures { IfSome result (λ text. IsKeptShown shape.now place kept.now (string_bytes text)) }
-{
+) -> Option<String> {
     match kept {
         None => None,
         Some(KeptBytes::Whole(bytes)) => show_whole(alloc, place, shape, bytes.as_slice()),
@@ -55,93 +47,46 @@ pub(crate) fn show(
 }
 
 // For a file that is longer than it may be.
-fn show_longer(alloc: Global, place: Place, beginning: &[u8], is_text: bool) -> Option<String>
-    ensures { IfSome result (λ text.
-        IsLongShown place beginning.now is_text (string_bytes text)) }
-{
+fn show_longer(alloc: Global, place: Place, beginning: &[u8], is_text: bool) -> Option<String> {
     match place {
-        Place::Whole => None,
-        Place::Slot(slot) => show_slot(alloc, is_elf(beginning), slot, beginning),
-        Place::Refused(_) => None,
-        Place::Rule(_, _) => show_long_rule(alloc, is_text),
+        Place::Whole | Place::Refused(_) => None,
+        Place::Slot(slot) => show_slot(alloc, slot, beginning),
+        Place::Rule(_, _) if is_text => String::from_str(alloc, rule_too_long()).ok(),
+        Place::Rule(_, _) => show_no_text(alloc),
     }
 }
 
-fn show_long_rule(alloc: Global, is_text: bool) -> Option<String>
-    ensures { IfSome result (λ text.
-        string_bytes text ≡ (if is_text then reported.rule_too_long else specs.no_text_line)) }
-{
-    if is_text {
-        match String::from_str(alloc, rule_too_long()) {
-            Ok(text) => Some(text),
-            Err(_) => None,
-        }
-    } else {
-        show_no_text(alloc)
-    }
-}
-
-fn show_whole(alloc: Global, place: Place, shape: &Shape, bytes: &[u8]) -> Option<String>
-    ensures { IfSome result (λ text. IsShown shape.now place bytes.now (string_bytes text)) }
-{
+fn show_whole(alloc: Global, place: Place, shape: &Shape, bytes: &[u8]) -> Option<String> {
     match place {
         Place::Whole => None,
-        Place::Slot(slot) => show_slot(alloc, is_elf(bytes), slot, bytes),
+        Place::Slot(slot) => show_slot(alloc, slot, bytes),
         Place::Refused(slot) => show_refused(alloc, shape, slot, bytes),
-        Place::Rule(line, kind) => show_rule(alloc, shape, line, kind, bytes),
+        Place::Rule(line, kind) => match str::from_utf8(bytes) {
+            Ok(text) => show_rule(alloc, shape, line, kind, text),
+            Err(_) => show_no_text(alloc),
+        },
     }
-}
-
-fn is_elf(bytes: &[u8]) -> bool
-    ensures { result ≡ specs.is_elf bytes.now }
-{
-    bytes.starts_with(b"\x7fELF")
-}
-
-#[tactic(auto, unfolding(crate::specs::Shown::elf_line))]
-fn elf_line() -> &'static str
-    ensures { result.now ≡ specs.elf_line }
-{
-    "an ELF object; llvm-objcopy -O binary -j .text IN OUT makes a program of it\n"
 }
 
 // That the file is an object of a compiler; or else the instruction.
-fn show_slot(alloc: Global, is_elf: bool, slot: usize, bytes: &[u8]) -> Option<String>
-    ensures { IfSome result (λ text. IsSlotShown is_elf slot bytes.now (string_bytes text)) }
-{
-    if is_elf {
-        match String::from_str(alloc, elf_line()) {
-            Ok(text) => Some(text),
-            Err(_) => None,
-        }
-    } else {
-        show_insn(alloc, slot, bytes)
+fn show_slot(alloc: Global, slot: usize, bytes: &[u8]) -> Option<String> {
+    if bytes.starts_with(b"\x7fELF") {
+        let advice =
+            "an ELF object; llvm-objcopy -O binary -j .text IN OUT makes a program of it\n";
+        return String::from_str(alloc, advice).ok();
     }
+    show_insn(alloc, slot, bytes)
 }
 
-fn show_insn(alloc: Global, slot: usize, bytes: &[u8]) -> Option<String>
-    ensures { IfSome result (λ text. IsInsnShown slot bytes.now (string_bytes text)) }
-{
-    let Ok((insn, _)) = decode_at(bytes, slot) else {
-        return None;
-    };
-    let Ok(line) = line_of(alloc, insn) else {
-        return None;
-    };
-    match format!(in alloc; "slot {slot}: {line}") {
-        Ok(text) => Some(text),
-        Err(_) => None,
-    }
+fn show_insn(alloc: Global, slot: usize, bytes: &[u8]) -> Option<String> {
+    let (insn, _) = decode_at(bytes, slot).ok()?;
+    let line = line_of(alloc, insn).ok()?;
+    format!(in alloc; "slot {slot}: {line}").ok()
 }
 
 // The instruction and why it is refused, or at least the instruction.
-fn show_refused(alloc: Global, shape: &Shape, slot: usize, bytes: &[u8]) -> Option<String>
-    ensures { IfSome result (λ text.
-        IsShown shape.now (Place.Refused slot) bytes.now (string_bytes text)) }
-{
-    let Some(insn) = show_insn(alloc, slot, bytes) else {
-        return None;
-    };
+fn show_refused(alloc: Global, shape: &Shape, slot: usize, bytes: &[u8]) -> Option<String> {
+    let insn = show_insn(alloc, slot, bytes)?;
     match with_sentence(alloc, shape, slot, bytes, insn.as_str()) {
         Some(text) => Some(text),
         None => Some(insn),
@@ -155,14 +100,8 @@ fn with_sentence(
     slot: usize,
     bytes: &[u8],
     insn: &str,
-) -> Option<String>
-    ensures { IfSome result (λ text. IsInsnShown slot bytes.now insn.now
-        → IsRefusedInsnShown shape.now slot bytes.now (string_bytes text)) }
-{
-    let Ok(flow) = Flow::check(alloc, bytes) else {
-        return None;
-    };
-    flow.invariant_law();
+) -> Option<String> {
+    let flow = Flow::check(alloc, bytes).ok()?;
     let Ok(Some(place)) = refused_place(alloc, &flow, shape) else {
         return None;
     };
@@ -173,65 +112,21 @@ fn with_sentence(
     format!(in alloc; "{insn}{sentence}\n").ok()
 }
 
-// The fault of a rule, unless the file isn't text.
-fn show_rule(
-    alloc: Global,
-    shape: &Shape,
-    line: usize,
-    kind: RuleFaultKind,
-    bytes: &[u8],
-) -> Option<String>
-    ensures { IfSome result (λ text.
-        IsShown shape.now (Place.Rule line kind) bytes.now (string_bytes text)) }
-{
-    match str::from_utf8(bytes) {
-        Ok(text) => {
-            let Some(shown) = show_text(alloc, shape, line, kind, text) else {
-                return None;
-            };
-            Some(shown)
-        }
-        Err(_) => {
-            let Some(shown) = show_no_text(alloc) else {
-                return None;
-            };
-            Some(shown)
-        }
-    }
-}
-
-fn show_no_text(alloc: Global) -> Option<String>
-    ensures { IfSome result (λ shown. string_bytes shown ≡ specs.no_text_line) }
-{
-    match format!(in alloc; "a rule is a text in UTF-8\n") {
-        Ok(shown) => Some(shown),
-        Err(_) => None,
-    }
+fn show_no_text(alloc: Global) -> Option<String> {
+    String::from_str(alloc, "a rule is a text in UTF-8\n").ok()
 }
 
 // The explanation of a rule's fault, or at least its line.
-fn show_text(
+fn show_rule(
     alloc: Global,
     shape: &Shape,
-    line: usize,
+    number: usize,
     kind: RuleFaultKind,
     text: &str,
-) -> Option<String>
-    ensures { IfSome result (λ shown.
-        IsTextShown shape.now line kind text.now (string_bytes shown)) }
-{
-    match rule_fault_message(alloc, text, shape, line, kind) {
-        Some(reported) => Some(reported),
-        None => show_line(alloc, line, text),
+) -> Option<String> {
+    if let Some(message) = rule_fault_message(alloc, text, shape, number, kind) {
+        return Some(message);
     }
-}
-
-fn show_line(alloc: Global, number: usize, text: &str) -> Option<String>
-    ensures { IfSome result (λ shown. string_bytes shown ≡ specs.numbered_line number text.now) }
-{
     let line = PrintedLines(line_text(number, text));
-    match format!(in alloc; "line {number}: {line}\n") {
-        Ok(shown) => Some(shown),
-        Err(_) => None,
-    }
+    format!(in alloc; "line {number}: {line}\n").ok()
 }

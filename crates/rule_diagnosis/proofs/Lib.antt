@@ -1,2 +1,1 @@
-mod Nth
 mod Trials

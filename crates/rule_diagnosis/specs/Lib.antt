@@ -1,4 +1,1 @@
-pub mod Lexemes
-pub mod Places
 pub mod Followers
-pub mod Message

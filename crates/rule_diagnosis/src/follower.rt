@@ -1,187 +1,76 @@
 //! The words and kinds of words that may follow a prefix of a rule, and how they are printed.
 
-ghost use Rattle.std.specs.Prelude.{◌≡◌, ◌++◌, OnOk, option_map};
-ghost use Rattle.printing.specs.Pushed.{Puts};
-ghost use Rattle.rule_diagnosis.specs.Followers as followers;
-
 use std::alloc::AllocError;
 use std::fmt::Write;
 
-/// A token, or all tokens of a kind.
+/// A word of a rule, or a sample of a kind of words; empty for the end of the rule's text.
 #[derive(Clone, Copy)]
-pub enum Follower {
-    When,
-    Count,
-    Otherwise,
-    None,
-    Offer,
-    And,
-    Or,
-    Not,
-    Version,
-    Bucket,
-    Today,
-    Installed,
-    Flag,
-    Attr,
-    Take,
-    Is,
-    /// The name `mod` and a number.
-    Modulus,
-    Open,
-    Close,
-    OpenBracket,
-    CloseBracket,
-    Comma,
-    Semicolon,
-    /// One of the six comparisons.
-    Comparison,
-    Name,
-    Number,
-    /// Two to four numbers, joined by dots.
-    Numbers,
-    /// A text in quotation marks.
-    Literal,
-    /// The end of the rule's text.
-    End,
-}
+pub struct Sample(pub &'static str);
 
-/// Each follower once, in the order of printing.
-pub static FOLLOWERS: [Follower; 29] = [
-    Follower::When,
-    Follower::Count,
-    Follower::Otherwise,
-    Follower::None,
-    Follower::Offer,
-    Follower::And,
-    Follower::Or,
-    Follower::Not,
-    Follower::Version,
-    Follower::Bucket,
-    Follower::Today,
-    Follower::Installed,
-    Follower::Flag,
-    Follower::Attr,
-    Follower::Take,
-    Follower::Is,
-    Follower::Modulus,
-    Follower::Open,
-    Follower::Close,
-    Follower::OpenBracket,
-    Follower::CloseBracket,
-    Follower::Comma,
-    Follower::Semicolon,
-    Follower::Comparison,
-    Follower::Name,
-    Follower::Number,
-    Follower::Numbers,
-    Follower::Literal,
-    Follower::End,
+/// Each word of a rule once, and a sample of each kind of words, in the order of printing. The name
+/// `mod` has a number, since `mod` may also be an array.
+pub static SAMPLES: [Sample; 29] = [
+    Sample("when"),
+    Sample("count"),
+    Sample("otherwise"),
+    Sample("none"),
+    Sample("offer"),
+    Sample("and"),
+    Sample("or"),
+    Sample("not"),
+    Sample("version"),
+    Sample("bucket"),
+    Sample("today"),
+    Sample("installed"),
+    Sample("flag"),
+    Sample("attr"),
+    Sample("take"),
+    Sample("is"),
+    Sample("mod 1"),
+    Sample("("),
+    Sample(")"),
+    Sample("["),
+    Sample("]"),
+    Sample(","),
+    Sample(";"),
+    Sample("<"),
+    Sample("a"),
+    Sample("1"),
+    Sample("1.0"),
+    Sample("\"\""),
+    Sample(""),
 ];
 
-/// The text with which a follower is tried.
-pub fn sample(follower: Follower) -> &'static str
-    ensures { result.now ≡ followers.sample follower }
-{
-    match follower {
-        Follower::When => "when",
-        Follower::Count => "count",
-        Follower::Otherwise => "otherwise",
-        Follower::None => "none",
-        Follower::Offer => "offer",
-        Follower::And => "and",
-        Follower::Or => "or",
-        Follower::Not => "not",
-        Follower::Version => "version",
-        Follower::Bucket => "bucket",
-        Follower::Today => "today",
-        Follower::Installed => "installed",
-        Follower::Flag => "flag",
-        Follower::Attr => "attr",
-        Follower::Take => "take",
-        Follower::Is => "is",
-        Follower::Modulus => "mod 1",
-        Follower::Open => "(",
-        Follower::Close => ")",
-        Follower::OpenBracket => "[",
-        Follower::CloseBracket => "]",
-        Follower::Comma => ",",
-        Follower::Semicolon => ";",
-        Follower::Comparison => "<",
-        Follower::Name => "a",
-        Follower::Number => "1",
-        Follower::Numbers => "1.0",
-        Follower::Literal => "\"\"",
-        Follower::End => "",
+fn push_sample(text: &mut String, sample: Sample) -> Result<(), AllocError> {
+    match sample.0 {
+        "mod 1" => text.push_str("\"mod\""),
+        "<" => text.push_str("a comparison"),
+        "a" => text.push_str("a name"),
+        "1" => text.push_str("a number"),
+        "1.0" => text.push_str("a version"),
+        "\"\"" => text.push_str("a text in \"\""),
+        "" => text.push_str("the text's end"),
+        word => write!(text, "\"{word}\""),
     }
 }
 
-// The printed text for all tokens of a kind.
-fn kind_text(follower: Follower) -> Option<&'static str>
-    ensures { option_map (λ t. t.now) result ≡ followers.kind_text follower }
-{
-    match follower {
-        Follower::Modulus => Some("\"mod\""),
-        Follower::Comparison => Some("a comparison"),
-        Follower::Name => Some("a name"),
-        Follower::Number => Some("a number"),
-        Follower::Numbers => Some("a version"),
-        Follower::Literal => Some("a text in \"\""),
-        Follower::End => Some("the text's end"),
-        _ => None,
-    }
-}
-
-fn push_follower(text: &mut String, follower: Follower) -> Result<(), AllocError>
-    ensures { OnOk result (Puts text.old text.new (followers.shown follower)) }
-{
-    match kind_text(follower) {
-        Some(kind) => text.push_str(kind),
-        None => {
-            let word = sample(follower);
-            write!(text, "\"{word}\"")
-        }
-    }
-}
-
-fn separator(rest: &[Follower]) -> &'static str
-    ensures { result.now ≡ followers.separator rest.now }
-{
-    match rest {
-        [] => "",
-        [_] => " or ",
-        [_, _, ..] => ", ",
-    }
-}
-
-/// Adds followers as a list, such as `"offer", "and" or "or"`.
-pub fn push_followers(text: &mut String, listed: &[Follower]) -> Result<(), AllocError>
-    ensures { OnOk result (Puts text.old text.new (followers.listed listed.now)) }
-{
-    let mut left = listed;
-    while let [first, rest @ ..] = left {
-        push_listed_follower(text, *first, rest)?;
-        left = rest;
+/// Appends what these are samples of as a list, such as `"offer", "and" or "or"`.
+pub(crate) fn push_samples(text: &mut String, samples: &[Sample]) -> Result<(), AllocError> {
+    for place in 0..samples.len() {
+        push_sample(text, samples[place])?;
+        text.push_str(match samples.len() - place {
+            1 => "",
+            2 => " or ",
+            _ => ", ",
+        })?;
     }
     Ok(())
 }
 
-fn push_listed_follower(
-    text: &mut String,
-    first: Follower,
-    rest: &[Follower],
-) -> Result<(), AllocError>
-    ensures { OnOk result
-        (Puts text.old text.new (followers.shown first ++ followers.separator rest.now)) }
-{
-    push_follower(text, first)?;
-    text.push_str(separator(rest))
-}
-
 /// Whether a test is expected: then the word `flag` is.
-pub(crate) fn expects_test(listed: &[Follower]) -> bool {
-    for follower in listed {
-        if let Follower::Flag = *follower {
+pub(crate) fn expects_test(samples: &[Sample]) -> bool {
+    for sample in samples {
+        if sample.0 == "flag" {
             return true;
         }
     }

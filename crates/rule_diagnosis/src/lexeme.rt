@@ -1,11 +1,8 @@
 //! The lexemes of a rule's text, byte by byte: the kind of each byte, and at which a lexeme begins.
 
-ghost use Rattle.std.specs.Prelude.{◌≡◌};
-ghost use Rattle.rule_diagnosis.specs.Lexemes as lexemes;
-
 /// The kind of lexeme that a byte belongs to.
 #[derive(Clone, Copy)]
-pub enum Lexeme {
+pub(crate) enum Lexeme {
     /// No lexeme: a blank or a line end.
     Blank,
     /// No lexeme: a comment, from `#` to the line's end.
@@ -25,38 +22,28 @@ pub enum Lexeme {
 }
 
 /// A byte of a text, or 0 after its end.
-pub fn byte_at(text: &[u8], place: usize) -> u8
-    ensures { result ≡ lexemes.byte_at text.now place }
-{
+pub(crate) fn byte_at(text: &[u8], place: usize) -> u8 {
     match text.get(place) {
         Some(c) => *c,
         None => 0,
     }
 }
 
-fn divides(c: u8, next: u8) -> bool
-    ensures { result ≡ lexemes.divides c next }
-{
+fn divides(c: u8, next: u8) -> bool {
     c == b' ' || c == b'\t' || c == b'\n' || (c == b'\r' && next == b'\n')
 }
 
 /// A letter, a digit, `_` or a dot.
-pub fn is_word(c: u8) -> bool
-    ensures { result ≡ lexemes.is_word c }
-{
+pub(crate) fn is_word(c: u8) -> bool {
     c.is_ascii_alphabetic() || c == b'_' || c.is_ascii_digit() || c == b'.'
 }
 
 /// A character of a comparison.
-pub fn is_relation(c: u8) -> bool
-    ensures { result ≡ lexemes.is_relation c }
-{
+pub(crate) fn is_relation(c: u8) -> bool {
     c == b'<' || c == b'=' || c == b'>' || c == b'!'
 }
 
-fn fresh(c: u8, next: u8) -> Lexeme
-    ensures { result ≡ lexemes.fresh c next }
-{
+fn fresh(c: u8, next: u8) -> Lexeme {
     if divides(c, next) {
         Lexeme::Blank
     } else if c == b'#' {
@@ -75,9 +62,7 @@ fn fresh(c: u8, next: u8) -> Lexeme
 }
 
 /// The kind of byte `c`, given the kind of the byte before it and the byte after it.
-pub fn lexeme_after(before: Lexeme, c: u8, next: u8) -> Lexeme
-    ensures { result ≡ lexemes.lexeme_after before c next }
-{
+pub(crate) fn lexeme_after(before: Lexeme, c: u8, next: u8) -> Lexeme {
     match before {
         Lexeme::Remark => if c == b'\n' {
             Lexeme::Blank
@@ -89,9 +74,7 @@ pub fn lexeme_after(before: Lexeme, c: u8, next: u8) -> Lexeme
     }
 }
 
-fn quoted_after(c: u8) -> Lexeme
-    ensures { result ≡ lexemes.quoted_after c }
-{
+fn quoted_after(c: u8) -> Lexeme {
     match c {
         b'"' => Lexeme::Unquote,
         b'\n' => Lexeme::Blank,
@@ -100,9 +83,7 @@ fn quoted_after(c: u8) -> Lexeme
 }
 
 /// Whether a lexeme begins at a byte of kind `now` after a byte of kind `before`.
-pub fn begins_lexeme(before: Lexeme, now: Lexeme) -> bool
-    ensures { result ≡ lexemes.begins_lexeme before now }
-{
+pub(crate) fn begins_lexeme(before: Lexeme, now: Lexeme) -> bool {
     match (before, now) {
         (_, Lexeme::Blank | Lexeme::Remark | Lexeme::Unquote) => false,
         (Lexeme::Word, Lexeme::Word) => false,
@@ -114,9 +95,7 @@ pub fn begins_lexeme(before: Lexeme, now: Lexeme) -> bool
 }
 
 /// Whether a byte is a carriage return without a line feed.
-pub fn is_lone(now: Lexeme, c: u8) -> bool
-    ensures { result ≡ lexemes.is_lone now c }
-{
+pub(crate) fn is_lone(now: Lexeme, c: u8) -> bool {
     match now {
         Lexeme::Mark => c == b'\r',
         _ => false,
@@ -124,9 +103,7 @@ pub fn is_lone(now: Lexeme, c: u8) -> bool
 }
 
 /// Whether a byte belongs to a lexeme.
-pub fn is_kept(now: Lexeme) -> bool
-    ensures { result ≡ lexemes.is_kept now }
-{
+pub(crate) fn is_kept(now: Lexeme) -> bool {
     match now {
         Lexeme::Blank | Lexeme::Remark => false,
         _ => true,

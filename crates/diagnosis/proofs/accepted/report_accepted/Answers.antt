@@ -4,7 +4,6 @@ use Rattle.diagnosis.proofs.accepted.report_accepted.Goals as goal
 
 pub returns : goal.returns
 returns c =
-    reports_judged c.args.judged _ _ c.in-Ok.reported.items _ _ _ _ _ c.as_slice.ensures.value
-    c.arrays.ensures.arrays refl c.as_slice-2.ensures.value c.as_slice-3.ensures.value
-    c.as_slice-4.ensures.value c.in-Ok-supply.ensures c.in-Ok-accepted_lines.ensures
+    reports_judged c.args.judged _ _ c.in-Ok.reported.items _ _ _ c.as_slice.ensures.value
+    c.arrays.ensures.arrays refl c.as_slice-4.ensures.value c.in-Ok-supply.ensures
     c.in-Ok.ensures c.as_slice-5.ensures.value c.in-Ok-warning_text.ensures refl

@@ -4,6 +4,4 @@ use Rattle.diagnosis.proofs.checking.out_of_memory.Goals as goal
 
 pub returns-clause-reported : goal.returns-clause-reported
 returns-clause-reported c = λ g read unread.
-    nothing_reported g _ refl c.new.ensures.bytes c.new-2.ensures.bytes c.new-3.ensures.items
-    refl read
-    unread
+    nothing_reported g _ refl c.new-3.ensures.items refl read unread

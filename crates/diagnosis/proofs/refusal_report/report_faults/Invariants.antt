@@ -1,13 +1,11 @@
-use Rattle.std.proofs.Common.{◌≡◌, ◌++◌, length, All}
+use Rattle.std.proofs.Common.{◌≡◌, ◌++◌, length}
 use Rattle.std.specs.Vec.Iter.{into_iter_items, into_iter_len}
-use Rattle.diagnosis.specs.Reported.{IsFaultReport}
-use Rattle.diagnosis.proofs.FaultReports.{faults_in}
+use Rattle.diagnosis.specs.Reported.{faults_in}
 use Rattle.diagnosis.proofs.refusal_report.report_faults.Given as goal
 
--- each fault so far is reported, and these and those that are left are all
+-- the faults so far and those that are left are all
 abbrev pub invariant-loop-fault : goal.invariant-loop-fault
 invariant-loop-fault l = record {
   so_far : faults_in l.all.items ++ into_iter_items l.fault-iterator ≡ l.fn.faults.items;
-  each : All (IsFaultReport l.arrays l.apps) l.all.items;
   count : into_iter_len l.fault-iterator ≡ length (into_iter_items l.fault-iterator);
 }

@@ -1,5 +1,5 @@
 use Rattle.std.proofs.Common.{◌≡◌, ◌+◌, ◌≤◌, length}
-use Rattle.rule_diagnosis.specs.Places.{line_at, line_feeds}
+use Rattle.rule_diagnosis.specs.Followers.{line_at, line_feeds}
 use Rattle.rule_diagnosis.proofs.place.line_at.Given as goal
 
 abbrev pub invariant-loop-left : goal.invariant-loop-left
