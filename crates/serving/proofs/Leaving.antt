@@ -7,6 +7,7 @@ use Rattle.thread_laws.specs.Quotas.{ThreadsGrantQuotas}
 use Rattle.cells.specs.declared.event.CellEvent.{CellEvent}
 use Rattle.shared_cells.specs.Passes.{CellsView, ClosedView, AreClosed, events_made}
 use Rattle.restart_laws.specs.Servers.{EachCountsOn, IsExact}
+use Rattle.halts.specs.Halts.{KeepsArrays, served}
 use Rattle.operator.specs.Control.{Controlled, Loading, KnowOnlyItsArrays}
 use Rattle.operator.specs.Leading.{AnsweredLine, LinesLead, LinesKeepToArrays}
 use Rattle.hot_swap.specs.Published.{KnownPrefix}
@@ -14,18 +15,20 @@ use Rattle.ruleset.specs.Rules.{Rules, IsRuleset, KnowsOnly}
 use Rattle.serving.specs.Ended.{LeavesOneWorld, runs_by_pass}
 use Rattle.serving.proofs.Turns.{DidInTurn}
 
--- the first ruleset knows only the arrays that it was loaded with
-pub knows_first : (control : Controlled) (arrays : List CellArray) (rules : Rules)
-    → control.arrays ≡ arrays → control.last.rules ≡ rules
-    → control.publishing.known.rulesets ≡ rules ∷ []
+-- the first ruleset, as it is loaded and as it is served, knows only the arrays that it was loaded
+-- with
+pub knows_first : KeepsArrays → (control : Controlled) (arrays : List CellArray) (rules : Rules)
+    (halted : List (List ℕ)) → control.arrays ≡ arrays → control.last.rules ≡ rules
+    → control.publishing.known.rulesets ≡ served halted rules ∷ []
     → KnowsOnly arrays rules → KnowOnlyItsArrays control
-knows_first control arrays rules same loaded listed only =
+knows_first keep control arrays rules halted same loaded listed only =
     let P = KnowsOnly control.arrays in
     let knows : P rules = subst (λ (a : List CellArray). KnowsOnly a rules) (sym same) only in
     record {
       loaded = subst P (sym loaded) knows;
-      published = All-same P control.publishing.known.rulesets (rules ∷ []) listed
-          (All-cons P rules [] knows (All-nil P));
+      published = All-same P control.publishing.known.rulesets (served halted rules ∷ []) listed
+          (All-cons P (served halted rules) [] (keep rules halted control.arrays knows)
+          (All-nil P));
     }
 
 -- and all published rulesets know only the server's arrays at its end
@@ -36,7 +39,7 @@ pub leaves : {F : Type 0} (loads : Loading F) → LinesKeepToArrays loads → Th
     → KnowOnlyItsArrays control → published ≡ end.publishing.known
     → All IsRuleset published.rulesets
     → DidInTurn control.publishing.known published cells.opening closed
-    → LeavesOneWorld loads cells control end.arrays closed.values
+    → LeavesOneWorld loads cells control end.halted end.arrays closed.values
 leaves loads keep grant on cells control end lines reads published closed own led directory knows
     same sound did =
     let sound_now = subst (λ (b : KnownPrefix). All IsRuleset b.rulesets) same sound in
@@ -54,6 +57,7 @@ leaves loads keep grant on cells control end lines reads published closed own le
       values_are = refl;
       end = end;
       arrays_are = refl;
+      halted_are = refl;
       lines = lines;
       reads = reads;
       led = led;
@@ -71,11 +75,16 @@ leaves loads keep grant on cells control end lines reads published closed own le
           (sym own.same) (granted array cell listed quota has).exact);
     }
 
--- the arrays and the values that are handed back are these
+-- the halted apps, the arrays and the values that are handed back are these
 pub hands_back : {F : Type 0} (loads : Loading F) (cells : CellsView) (control : Controlled)
-    (arrays ended : List CellArray) (values closed : List ℕ) → arrays ≡ ended → values ≡ closed
-    → LeavesOneWorld loads cells control ended closed
-    → LeavesOneWorld loads cells control arrays values
-hands_back loads cells control arrays ended values closed same_arrays same_values left =
-    subst (λ (a : List CellArray). LeavesOneWorld loads cells control a values) (sym same_arrays)
-    (subst (LeavesOneWorld loads cells control ended) (sym same_values) left)
+    (halted last : List (List ℕ)) (arrays ended : List CellArray) (values closed : List ℕ)
+    → halted ≡ last → arrays ≡ ended → values ≡ closed
+    → LeavesOneWorld loads cells control last ended closed
+    → LeavesOneWorld loads cells control halted arrays values
+hands_back loads cells control halted last arrays ended values closed same_halted same_arrays
+    same_values left =
+    subst (λ (h : List (List ℕ)). LeavesOneWorld loads cells control h arrays values)
+    (sym same_halted)
+    (subst (λ (a : List CellArray). LeavesOneWorld loads cells control last a values)
+    (sym same_arrays)
+    (subst (LeavesOneWorld loads cells control last ended) (sym same_values) left))

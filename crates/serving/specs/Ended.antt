@@ -37,21 +37,23 @@ pub record AreLeftByOneWorld (published : List Rules) (runs : List (List AppRun)
 abbrev pub runs_by_pass : List (List WorkerAnswer) → List (List AppRun)
 runs_by_pass by_worker = [] ∷ map runs_in_turn by_worker
 
--- What remains of a server that began to serve with these cells and this control: these arrays and
--- values. They are those of its own counters, closed with all passes to them. Answered lines of the
--- operator, and nothing else, led from that control to the one at its end. Each worker has answers,
--- one after the other, none under an older ruleset than the one before. Each is under a published
--- ruleset, or a refusal. What the worker did to the counters is what the runs of these answers did,
--- and the operator only read counters. The published rulesets are sound and know only the arrays,
--- which are those that the server has at its end. Each quota of these is granted, and counts on if
--- the server began with the counters that earlier ones left.
+-- What remains of a server that began to serve with these cells and this control: these halted
+-- apps, arrays and values. The values are those of its own counters, closed with all passes to
+-- them. Answered lines of the operator, and nothing else, led from that control to the one at its
+-- end. Each worker has answers, one after the other, none under an older ruleset than the one
+-- before. Each is under a published ruleset, or a refusal. What the worker did to the counters is
+-- what the runs of these answers did, and the operator only read counters. The published rulesets
+-- are sound and know only the arrays, which are those that the server has at its end. Each quota of
+-- these is granted, and counts on if the server began with the counters that earlier ones left.
 pub record LeavesOneWorld {F : Type 0} (loads : Loading F) (cells : CellsView)
-    (control : Controlled) (arrays : List CellArray) (values : List ℕ) : Type 0 where
+    (control : Controlled) (halted : List (List ℕ)) (arrays : List CellArray) (values : List ℕ)
+    : Type 0 where
   pub closed : ClosedView
   pub own : AreClosed cells closed
   pub values_are : values ≡ closed.values
   pub end : Controlled
   pub arrays_are : arrays ≡ end.arrays
+  pub halted_are : halted ≡ end.halted
   pub lines : List (AnsweredLine F)
   pub reads : List CellEvent
   pub led : LinesLead loads control lines reads end

@@ -12,11 +12,12 @@ use hot_swap::{Generation, Notice, Watcher, generations_go_onwards};
 use shared_cells::{Closed, SharedCells, SharedPass};
 use workers::Returned;
 
-/// What is left of a server: its closed counters, and its arrays.
+/// What is left of a server: its closed counters, its arrays, and the appids of its halted apps.
 #[derive(Drop)]
 pub(crate) struct Ended {
     pub(crate) closed: Closed,
     pub(crate) directory: Directory,
+    pub(crate) halted: Vec<String>,
     /// Whether each worker's watcher could be read, and has read only what was published.
     pub(crate) is_known: bool,
 }
@@ -38,6 +39,7 @@ pub(crate) fn close_cells(
     ensures history { AreLeftBy cells.opening result.closed.passes result.closed.values }
     ensures quotas { QuotasAreExact cells.opening result.closed.passes result.closed.values }
     ensures arrays { result.directory ≡ back.directory }
+    ensures halted { result.halted ≡ back.halted }
     ensures prefix { IsTrue result.is_known
         → All (λ worker. IsPrefix worker.1.rulesets back.published.rulesets) back.workers.items }
 {
@@ -48,6 +50,7 @@ pub(crate) fn close_cells(
         published,
         generation,
         directory,
+        halted,
     } = back;
     room.push_reserved(operator);
     let mut is_known = true;
@@ -62,6 +65,7 @@ pub(crate) fn close_cells(
     Ended {
         closed,
         directory,
+        halted,
         is_known,
     }
 }

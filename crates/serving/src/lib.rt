@@ -1,6 +1,6 @@
 //! A server with its operator's port, from a manifest's path to its end.
 //!
-//! A server begins with counters: none, or those that an earlier one left. A ready server has its
+//! A server begins with halted apps and counters: none, or those that an earlier one left. A ready server has its
 //! ruleset, loaded over their arrays, and its ports. A staffed server has all that it serves with.
 //! The operator has the publisher and the directory, and each worker has a watcher. All have
 //! passes, which are ghost tokens, to cells that they share without a lock. So whatever can fail

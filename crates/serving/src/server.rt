@@ -1,10 +1,12 @@
 //! From a manifest's path to a server that has all it needs except threads. What is wrong with the
 //! manifest or with the ports is found before threads start.
 
-ghost use Rattle.std.specs.Prelude.{◌≡◌, ◌≤◌, [], ◌∷◌, IfOk, IfErr, length, string_bytes};
+ghost use Rattle.std.specs.Prelude.{◌≡◌, ◌≤◌, [], ◌∷◌, IfOk, IfErr, length, map, string_bytes};
 ghost use Rattle.cells.specs.Events.{AreCells};
+ghost use Rattle.halts.specs.Halts.{served};
 ghost use Rattle.load.specs.Loaded.{IsLoadedFrom};
 ghost use Rattle.load.specs.Made.{IsMadeFrom};
+ghost use Rattle.operator.specs.Control.{ServesLastLoad};
 ghost use Rattle.ruleset.specs.Rules.{KnowsOnly};
 ghost use Rattle.serving.specs.Manifests.{RefusesToServe};
 ghost use Rattle.serving.specs.Staff.{IsLoadAtStart};
@@ -27,6 +29,8 @@ pub struct Server {
     loaded: LoadedRuleset,
     /// The path of its manifest.
     path: String,
+    /// The appids of the apps that are halted when it starts.
+    halted: Vec<String>,
     /// The values that its counters open with.
     values: Vec<u64>,
     ghost only: { KnowsOnly loaded.directory loaded.rules },
@@ -40,6 +44,7 @@ impl Drop for Server {
             ports: _ports,
             loaded: _loaded,
             path: _path,
+            halted: _halted,
             values: _values,
         } = self;
     }
@@ -67,11 +72,16 @@ where
     ensures made { IfOk result
         (λ s. IsMadeFrom (D.known disk.now) path.now counters.directory s.loaded) }
     ensures path { IfOk result (λ s. string_bytes s.path ≡ path.now) }
+    ensures halted { IfOk result (λ s. s.halted ≡ counters.halted) }
     ensures values { IfOk result (λ s. s.values ≡ counters.values) }
     ensures refused { IfErr result
         (RefusesToServe (D.known disk.now) path.now counters.directory) }
 {
-    let Counters { directory, values } = counters;
+    let Counters {
+        halted,
+        directory,
+        values,
+    } = counters;
     let loaded = match load_with_digest(rt.alloc(), disk, path, &directory) {
         Ok(loaded) => loaded,
         Err(refusal) => return Err(ServingFault::Manifest(refusal)),
@@ -84,6 +94,7 @@ where
             ports,
             loaded,
             path,
+            halted,
             values,
         }),
         Err(_) => Err(ServingFault::Bind),
@@ -106,12 +117,67 @@ impl Server {
         &self.loaded
     }
 
+    /// The appids of the apps that are halted when it starts.
+    pub fn halted(&self) -> &[String]
+        ensures { result.now ≡ self.now.halted.items }
+    {
+        &self.halted
+    }
+
     /// The values that its counters open with, by the numbers of their cells.
     pub fn values(&self) -> &[u64]
         ensures values { result.now ≡ self.now.values.items }
         ensures cells { AreCells result.now }
     {
         &self.values
+    }
+
+    /// The same server with these counters: its manifest is loaded anew over their arrays, and its
+    /// ports stay bound. Returns the manifest's fault.
+    // open: the bytes of a device's files.
+    pub fn opened_with<H, D>(
+        self,
+        rt: &H,
+        disk: &D,
+        counters: Counters,
+    ) -> Result<Server, ServingFault>
+    where
+        H: AllocGlobal,
+        D: Disk,
+        requires cells { AreCells counters.values.items }
+        ensures loaded { IfOk result (λ s. IsLoadedFrom (D.known disk.now) (string_bytes self.path)
+            counters.directory s.loaded.rules s.loaded.directory) }
+        ensures made { IfOk result (λ s. IsMadeFrom (D.known disk.now) (string_bytes self.path)
+            counters.directory s.loaded) }
+        ensures ports { IfOk result (λ s. s.ports ≡ self.ports) }
+        ensures path { IfOk result (λ s. s.path ≡ self.path) }
+        ensures halted { IfOk result (λ s. s.halted ≡ counters.halted) }
+        ensures values { IfOk result (λ s. s.values ≡ counters.values) }
+        ensures refused { IfErr result
+            (RefusesToServe (D.known disk.now) (string_bytes self.path) counters.directory) }
+    {
+        let Server {
+            ports,
+            loaded: _loaded,
+            path,
+            halted: _halted,
+            values: _values,
+        } = self;
+        let Counters {
+            halted,
+            directory,
+            values,
+        } = counters;
+        match load_with_digest(rt.alloc(), disk, path.as_str(), &directory) {
+            Ok(loaded) => Ok(Server {
+                ports,
+                loaded,
+                path,
+                halted,
+                values,
+            }),
+            Err(refusal) => Err(ServingFault::Manifest(refusal)),
+        }
     }
 
     /// The server with `workers` workers, to serve the ruleset as generation 1. Returns S1 if the
@@ -124,9 +190,11 @@ impl Server {
         requires few { workers ≤ 64 }
         ensures ports { IfOk result (λ s. s.ports ≡ self.ports) }
         ensures first { IfOk result (λ s. s.control.publishing.latest.generation ≡ 1) }
-        ensures rules { IfOk result (λ s. s.control.publishing.latest.rules ≡ self.loaded.rules) }
-        ensures known { IfOk result
-            (λ s. s.control.publishing.known.rulesets ≡ self.loaded.rules ∷ []) }
+        ensures rules { IfOk result (λ s. ServesLastLoad s.control) }
+        ensures known { IfOk result (λ s. s.control.publishing.known.rulesets
+            ≡ served (map string_bytes self.halted.items) self.loaded.rules ∷ []) }
+        ensures halted { IfOk result
+            (λ s. s.control.halted ≡ map string_bytes self.halted.items) }
         ensures arrays { IfOk result (λ s. s.control.arrays ≡ self.loaded.directory) }
         ensures last { IfOk result
             (λ s. IsLoadAtStart self.loaded (string_bytes self.path) s.control.last) }
@@ -138,8 +206,9 @@ impl Server {
             ports,
             loaded,
             path,
+            halted,
             values,
         } = self;
-        staff(rt, ports, loaded, path, values, workers)
+        staff(rt, ports, loaded, path, halted, values, workers)
     }
 }

@@ -2,12 +2,13 @@
 //! directory of its arrays, and its workers. These are made before anything is served.
 
 ghost use Rattle.std.specs.Prelude.{◌≡◌, ◌+◌, ◌≤◌, [], ◌∷◌, IfOk, IfErr, OnOk, length};
-ghost use Rattle.std.specs.Prelude.{string_bytes, vec_capacity};
+ghost use Rattle.std.specs.Prelude.{map, string_bytes, vec_capacity};
 ghost use Rattle.std.specs.Io.KnownBytes.{Appends};
 ghost use Rattle.cells.specs.Events.{AreCells};
 ghost use Rattle.ruleset.specs.Rules.{KnowsOnly};
 ghost use Rattle.workers.specs.Texts.{serving_line};
-ghost use Rattle.operator.specs.Control.{KnowOnlyItsArrays};
+ghost use Rattle.halts.specs.Halts.{served};
+ghost use Rattle.operator.specs.Control.{KnowOnlyItsArrays, ServesLastLoad};
 ghost use Rattle.serving.specs.Ended.{LeavesOneWorld};
 ghost use Rattle.serving.specs.Staff.{IsLoadAtStart, IsStaff};
 ghost use Rattle.serving.specs.Staffed.{IsEndFault, IsStaffFault};
@@ -18,6 +19,7 @@ use crate::last_values::{last_values, note_end};
 use crate::serving_fault::ServingFault;
 use crate::worker_list::worker_list;
 use bounded_files::ResourceFault;
+use halts::{halts_are_so, served_rules};
 use hot_swap::{Publisher, SwapFault, Watcher};
 use operator::{Control, LastLoad, Loader, loads_go_on};
 use restart_laws::servers_count_as_one;
@@ -65,16 +67,17 @@ fn room_for(alloc: Global, count: usize) -> Result<Vec<SharedPass>, ServingFault
     }
 }
 
-/// A server at these ports, with `workers` workers, whose counters open with these values. It
-/// serves this ruleset, which was loaded from the path, as generation 1; nothing else is installed.
-/// Returns S1 if the counters can't be allocated, H1 if the publisher or one of its watchers can't,
-/// and B4 if other memory can't.
+/// A server at these ports, with `workers` workers, whose counters open with these values. While
+/// these apps are halted, it serves this ruleset, which was loaded from the path, as generation 1;
+/// nothing else is installed. Returns S1 if the counters can't be allocated, H1 if the publisher or
+/// one of its watchers can't, and B4 if other memory can't.
 // open: when B4 is returned.
 pub fn staff<H>(
     rt: &H,
     ports: Ports,
     loaded: LoadedRuleset,
     path: String,
+    halted: Vec<String>,
     values: Vec<u64>,
     workers: usize,
 ) -> Result<StaffedServer, ServingFault>
@@ -86,14 +89,17 @@ where
     requires only { KnowsOnly loaded.directory loaded.rules }
     ensures ports { IfOk result (λ s. s.ports ≡ ports) }
     ensures first { IfOk result (λ s. s.control.publishing.latest.generation ≡ 1) }
-    ensures rules { IfOk result (λ s. s.control.publishing.latest.rules ≡ loaded.rules) }
-    ensures known { IfOk result (λ s. s.control.publishing.known.rulesets ≡ loaded.rules ∷ []) }
+    ensures rules { IfOk result (λ s. ServesLastLoad s.control) }
+    ensures known { IfOk result (λ s. s.control.publishing.known.rulesets
+        ≡ served (map string_bytes halted.items) loaded.rules ∷ []) }
+    ensures halted { IfOk result (λ s. s.control.halted ≡ map string_bytes halted.items) }
     ensures arrays { IfOk result (λ s. s.control.arrays ≡ loaded.directory) }
     ensures last { IfOk result (λ s. IsLoadAtStart loaded (string_bytes path) s.control.last) }
     ensures opening { IfOk result (λ s. s.cells.opening ≡ values.items) }
     ensures workers { IfOk result (λ s. length s.workers.items ≡ workers) }
     ensures fault { IfErr result IsStaffFault }
 {
+    halts_are_so();
     let alloc = rt.alloc();
     let LoadedRuleset {
         rules,
@@ -103,7 +109,7 @@ where
     let Ok(rules) = Arc::new(alloc, rules) else {
         return Err(ServingFault::Resource(ResourceFault::Memory));
     };
-    let Ok(served) = Arc::try_clone(&rules) else {
+    let Ok(served) = served_rules(alloc, &rules, &halted) else {
         return Err(ServingFault::Resource(ResourceFault::Memory));
     };
     let room = room_for(alloc, workers + 1)?;
@@ -129,7 +135,7 @@ where
             ports,
             cells,
             pass,
-            control: Control::new(alloc, publisher, directory, last),
+            control: Control::new(publisher, directory, last, halted),
             workers,
             room,
             values,
@@ -149,8 +155,8 @@ impl StaffedServer {
         &self.ports
     }
 
-    /// Serves until the operator stops the server, and returns all arrays, with the counters' last
-    /// values; those that aren't 0 have a line in the log. Once all threads exist, `out` gets the
+    /// Serves until the operator stops the server, and returns the halted apps and all arrays, with
+    /// the counters' last values; those that aren't 0 have a line in the log. Once all threads exist, `out` gets the
     /// ready line, with the generation, by one write. Later rulesets are from the loader. Returns
     /// B4 if an allocation or a thread fails, before any client is answered and before anything is
     /// written. Returns B3 if `out` can't be written, and H2 if a worker's watcher can't be read at
@@ -178,7 +184,7 @@ impl StaffedServer {
         requires some { 1 ≤ length self.workers.items }
         requires few { length self.workers.items ≤ 64 }
         ensures world { IfOk result (λ left. LeavesOneWorld (L.loads loader.now) self.cells
-            self.control left.directory left.values.items) }
+            self.control (map string_bytes left.halted.items) left.directory left.values.items) }
         ensures printed { OnOk result (Appends (O.contents out.old) (O.contents out.new)
             (serving_line self.control.publishing.latest.generation)) }
         ensures fault { IfErr result IsEndFault }
@@ -213,13 +219,18 @@ impl StaffedServer {
         let Ended {
             closed,
             directory,
+            halted,
             is_known,
         } = close_cells(cells, back, room);
         note_end(rt, service.log, is_known, directory.arrays(), &closed);
         let values = last_values(&closed, values);
         control.close(rt);
         if is_known {
-            Ok(Counters { directory, values })
+            Ok(Counters {
+                halted,
+                directory,
+                values,
+            })
         } else {
             Err(ServingFault::Publisher(SwapFault::NoPlace))
         }

@@ -36,7 +36,12 @@ fn control_of<T: Abort + Wait>(own: &Impaired<'_, T>) -> Control {
         path: String::new(alloc),
         time: utc_now(own),
     };
-    Control::new(alloc, publisher_of(own), Directory::new(alloc), last)
+    Control::new(
+        publisher_of(own),
+        Directory::new(alloc),
+        last,
+        Vec::new(alloc),
+    )
 }
 
 /// Serves the operator's port of a stopped server. Returns whether a line ended it.

@@ -1,6 +1,7 @@
 -- What the threads of a server return once they have ended. Their passes, which are ghost tokens,
 -- have what was done by them, and their watchers have what they know.
-use Rattle.std.specs.Prelude.{◌≡◌, ◌≤◌, ◌<◌, ◌^◌, ◌-◌, ℕ, ℤ, List, All, length}
+use Rattle.std.specs.Prelude.{◌≡◌, ◌≤◌, ◌<◌, ◌^◌, ◌-◌, ℕ, ℤ, List, All, length, map}
+use Rattle.std.specs.Prelude.{string_bytes}
 use Rattle.std.specs.List.{AllZip}
 use Rattle.cells.specs.Directory.{IsDirectory}
 use Rattle.cells.specs.Grown.{GrewBy}
@@ -64,7 +65,7 @@ module _ {P : Type 0} (belongs : P → Type 0) (grew : P → CellEvent → P →
 
     -- All that is returned by a server that began with this pass of its operator, these workers and
     -- this control. The operator's lines, and nothing else, led from that control to the one at its
-    -- end. What was published then, and its arrays, are also returned.
+    -- end. What was published then, its arrays and its halted apps, are also returned.
     pub record ServerBack (pass : P) (staff : List (P × KnownPrefix)) (control : Controlled)
         (back : Returned P) : Type 0 where
       pub last : Controlled
@@ -72,5 +73,6 @@ module _ {P : Type 0} (belongs : P → Type 0) (grew : P → CellEvent → P →
       pub workers : WorkersBack staff back.workers.items
       pub directory : IsDirectory last.arrays
       pub arrays_are : back.directory ≡ last.arrays
+      pub halted_are : map string_bytes back.halted.items ≡ last.halted
       pub published_are : back.published ≡ last.publishing.known
       pub published : IsPublished back.published back.generation

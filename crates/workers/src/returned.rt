@@ -18,4 +18,6 @@ pub struct Returned<P: Drop> {
     pub generation: Generation,
     /// The arrays that were declared by then.
     pub directory: Directory,
+    /// The appids of the apps that were halted by then.
+    pub halted: Vec<String>,
 }

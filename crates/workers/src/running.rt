@@ -6,7 +6,7 @@
 //! the end.
 
 ghost use Rattle.std.specs.Io.KnownBytes.{Appends};
-ghost use Rattle.std.specs.Prelude.{◌≡◌, ◌≤◌, All, IfOk, OnOk, length};
+ghost use Rattle.std.specs.Prelude.{◌≡◌, ◌≤◌, All, IfOk, OnOk, length, map, string_bytes};
 ghost use Rattle.cells.specs.Directory.{IsDirectory};
 ghost use Rattle.workers.specs.Back.{IsPublished, OperatorBack, ServerBack};
 ghost use Rattle.workers.specs.Texts.{serving_line};
@@ -75,12 +75,14 @@ fn returned<P: Drop>(
     ensures known { result.published ≡ control.old.publishing.known }
     ensures published { IsPublished result.published result.generation }
     ensures arrays { result.directory ≡ control.old.arrays }
+    ensures halted { map string_bytes result.halted.items ≡ control.old.halted }
     ensures directory { IsDirectory control.old.arrays }
 {
     control.invariant_law();
     let (operator, end) = operator;
     let published = control.tell();
     let generation = control.generation();
+    let halted = control.take_halted(alloc);
     let directory = control.take_arrays(alloc);
     Returned {
         operator,
@@ -89,6 +91,7 @@ fn returned<P: Drop>(
         published,
         generation,
         directory,
+        halted,
     }
 }
 

@@ -1,4 +1,6 @@
-use Rattle.std.proofs.Common.{[], ◌∷◌, All, sym, ap, subst, ◌∙◌, arith}
+use Rattle.std.proofs.Common.{◌≡◌, [], ◌∷◌, All, map, string_bytes, sym, ap, subst, ◌∙◌, arith, rules}
+use Rattle.std.specs.Arc.{arc_value}
+use Rattle.halts.specs.Halts.{served}
 use Rattle.hot_swap.specs.Latest.{Publishing}
 use Rattle.hot_swap.specs.Published.{KnownPrefix}
 use Rattle.operator.specs.Control.{LastLoad}
@@ -21,15 +23,18 @@ invariant_of-result g c =
     c.in-Ok-worker_list.ensures.all
     (λ new. subst (λ (b : KnownPrefix). All (IsNewWorker cells.table b) workers) (sym known)
     (c.in-Ok-worker_list.ensures.each cells.table new)) in
+    let halted = map string_bytes c.args.halted.items in
+    let served_is : arc_value c.in-Ok-served_rules.served ≡ served halted c.args.loaded.rules =
+    search rules in
     let listed = ap (λ (b : KnownPrefix). b.rulesets) known ∙ c.in-Ok-new.ensures.listed
-    ∙ ap (λ (r : Rules). r ∷ []) (c.in-Ok-try_clone.ensures ∙ c.in-Ok.ensures.ok) in
+    ∙ ap (λ (r : Rules). r ∷ []) served_is in
     let all = is.all in
     let many = made.many in
     let room = c.in_ok-room.ensures.capacity in
     record {
       staff = is;
-      only = knows_first c.new-in-Ok-worker_list.result c.args.loaded.directory
-          c.args.loaded.rules c.new-in-Ok-worker_list.ensures.arrays
+      only = knows_first c.halts_are_so.ensures.arrays c.new-in-Ok-worker_list.result
+          c.args.loaded.directory c.args.loaded.rules halted c.new-in-Ok-worker_list.ensures.arrays
           (ap (λ (l : LastLoad). l.rules) c.new-in-Ok-worker_list.ensures.last
           ∙ c.in-Ok.ensures.ok)
           listed c.requires.only;

@@ -1,4 +1,7 @@
-use Rattle.std.proofs.Common.{◌≡◌, ℕ, ◌+◌, length, sym, ap, ◌∙◌, arith}
+use Rattle.std.proofs.Common.{◌≡◌, ℕ, ◌+◌, length, map, string_bytes, sym, ap, ◌∙◌, arith}
+use Rattle.std.specs.declared.alloc.Global.{Global}
+use Rattle.std.specs.declared.string.String.{String}
+use Rattle.std.specs.declared.vec.Vec.{Vec}
 use Rattle.std.proofs.lemmas.Slice.Zip.{AllZip-long}
 use Rattle.hot_swap.specs.Published.{KnownPrefix}
 use Rattle.serving.proofs.Ending.{are_of_server, has_looked, new_belong}
@@ -60,7 +63,9 @@ returns-then-is_known-clause-world g c =
     let looked = has_looked c.passes_gain_lists.ensures server.cells.table server.pass
     operator.reads c.in-Ok.back.operator server.staff.own operator.grown
     (laws.reads server.control back.last operator.lines operator.reads operator.led) in
-    hands_back _ server.cells server.control _ back.last.arrays _ closed.values
+    hands_back _ server.cells server.control _ back.last.halted _ back.last.arrays _ closed.values
+    (ap (λ (v : Vec (String Global) Global). map string_bytes v.items) done.halted
+    ∙ back.halted_are)
     (done.arrays ∙ back.arrays_are) c.last_values-values.ensures
     (leaves _ laws.only c.threads_grant_quotas.ensures c.servers_count_as_one.ensures.each
     server.cells server.control back.last

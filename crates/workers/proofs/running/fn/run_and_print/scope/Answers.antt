@@ -40,6 +40,7 @@ returns g c =
             c.joined.result.items c.in-Ok-start_workers.ensures c.joined.ensures);
         directory = back.directory;
         arrays_are = back.arrays;
+        halted_are = back.halted;
         published_are = back.known;
         published = back.published;
       };
