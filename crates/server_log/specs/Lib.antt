@@ -1,4 +1,5 @@
 pub mod Loads
+pub mod Counters
 pub mod Halts
 pub mod Requested
 pub mod ConnectionRecord

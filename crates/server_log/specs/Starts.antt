@@ -13,23 +13,25 @@ use Rattle.server_log.specs.declared.start_line.Starting.{Starting}
 abbrev pub digest_in : Option LoadedRuleset → Option (List ℕ)
 digest_in = option_map (λ loaded. loaded.digest)
 
--- the event of a server that starts: its manifest, the operator's port, and the digest of what it
--- serves
+-- the event of a server that starts: its manifest, the operator's port, how the file of its
+-- counters was found, and the digest of what it serves
 pub record DescribesStart (server : Starting) (digest : Option (List ℕ)) (start : Start)
     : Type 0 where
   pub manifest_is : IsExcerpt server.manifest.now start.manifest
   pub operator_is : start.operator ≡ server.operator
   pub digest_is : option_copied start.digest ≡ digest
+  pub counters_is : option_copied start.counters ≡ option_copied server.counters
   pub refusal_is : start.refusal ≡ None
   pub cause_is : start.cause ≡ None
 
--- the event of a refused start: the manifest, the operator's port, the text of the refusal, and the
--- cause
+-- the event of a refused start: the manifest, the operator's port, how the file was found, the text
+-- of the refusal, and the cause
 pub record DescribesRefusedStart (server : Starting) (text : List ℕ) (cause : Option (List ℕ))
     (start : Start) : Type 0 where
   pub manifest_is : IsExcerpt server.manifest.now start.manifest
   pub operator_is : start.operator ≡ server.operator
   pub digest_is : start.digest ≡ None
+  pub counters_is : option_copied start.counters ≡ option_copied server.counters
   pub refusal_is : option_copied start.refusal ≡ Some text
   pub cause_is : IsExcerptOf cause start.cause
 

@@ -25,6 +25,8 @@ pub struct Starting<'a> {
     /// The clients' port, and the operator's.
     pub port: u16,
     pub operator: u16,
+    /// How the file of its counters was found, if it has one: `new`, `stopped` or `crashed`.
+    pub counters: Option<&'a str>,
 }
 
 /// Puts the line of a server that starts into the queue, with the digest of what it serves. If an
@@ -145,6 +147,7 @@ fn started<'x>(server: Starting<'x>, digest: Option<&'x str>) -> Start<'x>
         manifest: Excerpt::of(server.manifest),
         operator: server.operator,
         digest,
+        counters: server.counters,
         refusal: None,
         cause: None,
     }
@@ -157,6 +160,7 @@ fn refused<'x>(server: Starting<'x>, refusal: &'x str, cause: Option<&'x str>) -
         manifest: Excerpt::of(server.manifest),
         operator: server.operator,
         digest: None,
+        counters: server.counters,
         refusal: Some(refusal),
         cause: excerpt_of(cause),
     }

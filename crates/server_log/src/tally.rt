@@ -18,6 +18,7 @@ pub(crate) struct RunningTotals {
     content_too_large: AtomicU64,
     header_fields_too_large: AtomicU64,
     internal_server_error: AtomicU64,
+    service_unavailable: AtomicU64,
     dropped: AtomicU64,
     longest_wait: AtomicU64,
     busy: AtomicU64,
@@ -36,6 +37,7 @@ impl RunningTotals {
             content_too_large: AtomicU64::new(0),
             header_fields_too_large: AtomicU64::new(0),
             internal_server_error: AtomicU64::new(0),
+            service_unavailable: AtomicU64::new(0),
             dropped: AtomicU64::new(0),
             longest_wait: AtomicU64::new(0),
             busy: AtomicU64::new(0),
@@ -69,6 +71,7 @@ impl RunningTotals {
             413 => &self.content_too_large,
             431 => &self.header_fields_too_large,
             500 => &self.internal_server_error,
+            503 => &self.service_unavailable,
             _ => &self.dropped,
         }
     }
@@ -85,6 +88,7 @@ impl RunningTotals {
             content_too_large: taken(&self.content_too_large),
             header_fields_too_large: taken(&self.header_fields_too_large),
             internal_server_error: taken(&self.internal_server_error),
+            service_unavailable: taken(&self.service_unavailable),
             dropped: taken(&self.dropped),
             longest_wait: taken(&self.longest_wait),
             busy: self.busy.swap(busy_now, Ordering::SeqCst),
