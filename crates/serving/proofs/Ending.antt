@@ -1,5 +1,5 @@
 -- What the threads of a server returned: a new pass has made the events by which it grew.
-use Rattle.std.proofs.Common.{◌≡◌, ℕ, ◌≤◌, List, [], ◌∷◌, ◌++◌, length, All, sym, ap, subst}
+use Rattle.std.proofs.Common.{◌≡◌, Bool, ℕ, ◌≤◌, List, [], ◌∷◌, ◌++◌, length, All, sym, ap, subst}
 use Rattle.std.proofs.Common.{◌∙◌, arith, length-append}
 use Rattle.std.specs.List.{AllZip}
 use Rattle.std.proofs.lemmas.List.Elements.{All-nil, All-cons, All-head, All-tail, All-weaker}
@@ -52,18 +52,27 @@ new_belong cells known workers =
     All-weaker (IsNewWorker cells.table known) (λ (w : PassView × KnownPrefix). IsPassOf cells w.0)
     (λ w is. is.pass.of) workers
 
+-- and have done nothing
+pub new_are_unused : (table : TableId) (known : KnownPrefix)
+    (workers : List (PassView × KnownPrefix)) → All (IsNewWorker table known) workers
+    → All (λ w. w.0.events ≡ []) workers
+new_are_unused table known workers =
+    All-weaker (IsNewWorker table known) (λ (w : PassView × KnownPrefix). w.0.events ≡ [])
+    (λ w is. is.pass.none) workers
+
 -- returned workers belong to the server
-pub are_of_server : AnswersGoOnwards → (cells : CellsView) (known : KnownPrefix)
-    (publisher : PublisherId) (old new : List (PassView × KnownPrefix))
+pub are_of_server : (withholds : Bool) → AnswersGoOnwards → (cells : CellsView)
+    (known : KnownPrefix) (publisher : PublisherId) (old new : List (PassView × KnownPrefix))
     → publisher ≡ known.publisher → All (IsNewWorker cells.table known) old
-    → AllZip (WorkerBack (IsPassOf cells) Gained) old new → All (IsOfServer cells publisher) new
-are_of_server onwards cells known publisher old new same =
-    zipped (IsNewWorker cells.table known) (WorkerBack (IsPassOf cells) Gained)
+    → AllZip (WorkerBack withholds (IsPassOf cells) Gained) old new
+    → All (IsOfServer cells publisher) new
+are_of_server withholds onwards cells known publisher old new same =
+    zipped (IsNewWorker cells.table known) (WorkerBack withholds (IsPassOf cells) Gained)
     (IsOfServer cells publisher)
     (λ x y is back. record {
       pass = back.belongs_yet;
       watcher =
-          same ∙ sym ((onwards x.1 y.1 back.answers back.in_turn).publisher
+          same ∙ sym ((onwards withholds x.1 y.1 back.answers back.in_turn).publisher
           ∙ ap (λ (b : KnownPrefix). b.publisher) is.watches);
     })
     old new

@@ -1,5 +1,5 @@
 -- The arrays that a server's rulesets know, when it begins and when it ends.
-use Rattle.std.proofs.Common.{◌≡◌, ℕ, List, [], ◌∷◌, All, refl, sym, subst}
+use Rattle.std.proofs.Common.{◌≡◌, Bool, ℕ, List, [], ◌∷◌, All, refl, sym, subst}
 use Rattle.std.proofs.lemmas.List.Elements.{All-cons, All-nil, All-same}
 use Rattle.cells.specs.Directory.{IsDirectory}
 use Rattle.cells.specs.declared.array.CellArray.{CellArray}
@@ -32,20 +32,22 @@ knows_first keep control arrays rules halted same loaded listed only =
     }
 
 -- and all published rulesets know only the server's arrays at its end
-pub leaves : {F : Type 0} (loads : Loading F) → LinesKeepToArrays loads → ThreadsGrantQuotas
-    → EachCountsOn → (cells : CellsView) (control end : Controlled) (lines : List (AnsweredLine F))
-    (reads : List CellEvent) (published : KnownPrefix) (closed : ClosedView)
+pub leaves : {F : Type 0} (withholds : Bool) (loads : Loading F) → LinesKeepToArrays loads
+    → ThreadsGrantQuotas → EachCountsOn → (cells : CellsView) (control end : Controlled)
+    (lines : List (AnsweredLine F)) (reads : List CellEvent) (published : KnownPrefix)
+    (closed : ClosedView)
     → AreClosed cells closed → LinesLead loads control lines reads end → IsDirectory end.arrays
     → KnowOnlyItsArrays control → published ≡ end.publishing.known
     → All IsRuleset published.rulesets
-    → DidInTurn control.publishing.known published cells.opening closed
-    → LeavesOneWorld loads cells control end.halted end.arrays closed.values
-leaves loads keep grant on cells control end lines reads published closed own led directory knows
-    same sound did =
+    → DidInTurn withholds control.publishing.known published cells.opening closed
+    → LeavesOneWorld withholds loads cells control end.halted end.arrays closed.values
+leaves withholds loads keep grant on cells control end lines reads published closed own led
+    directory knows same sound did =
     let sound_now = subst (λ (b : KnownPrefix). All IsRuleset b.rulesets) same sound in
     let now =
-    subst (λ (b : KnownPrefix). DidInTurn control.publishing.known b cells.opening closed) same
-    did in
+    subst
+    (λ (b : KnownPrefix). DidInTurn withholds control.publishing.known b cells.opening closed)
+    same did in
     let world = now.did in
     let only = keep control end lines reads led knows in
     let granted = grant end.publishing.known.rulesets closed.passes 0 cells.opening
@@ -76,15 +78,15 @@ leaves loads keep grant on cells control end lines reads published closed own le
     }
 
 -- the halted apps, the arrays and the values that are handed back are these
-pub hands_back : {F : Type 0} (loads : Loading F) (cells : CellsView) (control : Controlled)
-    (halted last : List (List ℕ)) (arrays ended : List CellArray) (values closed : List ℕ)
-    → halted ≡ last → arrays ≡ ended → values ≡ closed
-    → LeavesOneWorld loads cells control last ended closed
-    → LeavesOneWorld loads cells control halted arrays values
-hands_back loads cells control halted last arrays ended values closed same_halted same_arrays
-    same_values left =
-    subst (λ (h : List (List ℕ)). LeavesOneWorld loads cells control h arrays values)
+pub hands_back : {F : Type 0} (withholds : Bool) (loads : Loading F) (cells : CellsView)
+    (control : Controlled) (halted last : List (List ℕ)) (arrays ended : List CellArray)
+    (values closed : List ℕ) → halted ≡ last → arrays ≡ ended → values ≡ closed
+    → LeavesOneWorld withholds loads cells control last ended closed
+    → LeavesOneWorld withholds loads cells control halted arrays values
+hands_back withholds loads cells control halted last arrays ended values closed same_halted
+    same_arrays same_values left =
+    subst (λ (h : List (List ℕ)). LeavesOneWorld withholds loads cells control h arrays values)
     (sym same_halted)
-    (subst (λ (a : List CellArray). LeavesOneWorld loads cells control last a values)
+    (subst (λ (a : List CellArray). LeavesOneWorld withholds loads cells control last a values)
     (sym same_arrays)
-    (subst (LeavesOneWorld loads cells control last ended) (sym same_values) left))
+    (subst (LeavesOneWorld withholds loads cells control last ended) (sym same_values) left))

@@ -4,3 +4,4 @@ mod Turns
 mod Closing
 mod Leaving
 mod Zeros
+mod Moved

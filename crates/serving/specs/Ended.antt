@@ -1,5 +1,5 @@
 -- What a server leaves after its end: one history of all that its threads did to its counters.
-use Rattle.std.specs.Prelude.{◌≡◌, ℕ, List, [], ◌∷◌, All, Contains, IsSome, map, reverse}
+use Rattle.std.specs.Prelude.{◌≡◌, Bool, ℕ, List, [], ◌∷◌, All, Contains, IsSome, map, reverse}
 use Rattle.thread_laws.specs.Quotas.{QuotasAreGranted}
 use Rattle.shared_cells.specs.Passes.{CellsView, PassView, ClosedView, IsPassOf, AreClosed}
 use Rattle.shared_cells.specs.Passes.{AreLeftBy}
@@ -34,18 +34,20 @@ pub record AreLeftByOneWorld (published : List Rules) (runs : List (List AppRun)
 
 -- the runs of each pass of a server: none of the operator's pass, which is the first, and for a
 -- worker's pass those of the worker's answers
-abbrev pub runs_by_pass : List (List WorkerAnswer) → List (List AppRun)
+abbrev pub runs_by_pass
+    : {withholds : Bool} → List (List (WorkerAnswer withholds)) → List (List AppRun)
 runs_by_pass by_worker = [] ∷ map runs_in_turn by_worker
 
 -- What remains of a server that began to serve with these cells and this control: these halted
 -- apps, arrays and values. The values are those of its own counters, closed with all passes to
 -- them. Answered lines of the operator, and nothing else, led from that control to the one at its
 -- end. Each worker has answers, one after the other, none under an older ruleset than the one
--- before. Each is under a published ruleset, or a refusal. What the worker did to the counters is
--- what the runs of these answers did, and the operator only read counters. The published rulesets
--- are sound and know only the arrays, which are those that the server has at its end. Each quota of
--- these is granted, and counts on if the server began with the counters that earlier ones left.
-pub record LeavesOneWorld {F : Type 0} (loads : Loading F) (cells : CellsView)
+-- before. Each is under a published ruleset or a refusal, or withheld if that may be. What the
+-- worker did to the counters is what the runs of these answers did, and the operator only read
+-- counters. The published rulesets are sound and know only the arrays, which are those that the
+-- server has at its end. Each quota of these is granted, and counts on if the server began with the
+-- counters that earlier ones left.
+pub record LeavesOneWorld {F : Type 0} (withholds : Bool) (loads : Loading F) (cells : CellsView)
     (control : Controlled) (halted : List (List ℕ)) (arrays : List CellArray) (values : List ℕ)
     : Type 0 where
   pub closed : ClosedView
@@ -57,7 +59,7 @@ pub record LeavesOneWorld {F : Type 0} (loads : Loading F) (cells : CellsView)
   pub lines : List (AnsweredLine F)
   pub reads : List CellEvent
   pub led : LinesLead loads control lines reads end
-  pub by_worker : List (List WorkerAnswer)
+  pub by_worker : List (List (WorkerAnswer withholds))
   pub in_turn :
       All (λ answers. AreInTurn control.publishing.known answers end.publishing.known) by_worker
   pub did :

@@ -9,6 +9,7 @@ ghost use Rattle.serving.specs.Ended.{IsOfServer, passes_of};
 
 use cells::Directory;
 use hot_swap::{Generation, Notice, Watcher, generations_go_onwards};
+use kept_cells::KeptPass;
 use shared_cells::{Closed, SharedCells, SharedPass};
 use workers::Returned;
 
@@ -25,7 +26,7 @@ pub(crate) struct Ended {
 /// Closes the cells by all passes to them, which fit into `room`.
 pub(crate) fn close_cells(
     cells: SharedCells,
-    back: Returned<SharedPass>,
+    back: Returned<KeptPass>,
     mut room: Vec<SharedPass>,
 ) -> Ended
     requires all { cells.passes ≡ length back.workers.items + 1 }
@@ -52,7 +53,7 @@ pub(crate) fn close_cells(
         directory,
         halted,
     } = back;
-    room.push_reserved(operator);
+    room.push_reserved(operator.into_pass());
     let mut is_known = true;
     while let Some(worker) = workers.pop() {
         let (pass, reads_published) = pass_of(worker, &published, generation);
@@ -73,7 +74,7 @@ pub(crate) fn close_cells(
 // The pass of a worker, and whether its watcher has read only what was published, up to this
 // generation. False if it has read more, which can't be, or if it can't be read.
 fn pass_of(
-    worker: (SharedPass, Watcher),
+    worker: (KeptPass, Watcher),
     published: &Notice,
     generation: Generation,
 ) -> (SharedPass, bool)
@@ -84,6 +85,7 @@ fn pass_of(
 {
     generations_go_onwards();
     let (pass, mut watcher) = worker;
+    let pass = pass.into_pass();
     watcher.learn(published);
     match watcher.current() {
         Ok((seen, _)) => (pass, seen <= generation),

@@ -1,9 +1,10 @@
 //! A server with all that it serves with: its counters, the publisher of its rulesets with the
 //! directory of its arrays, and its workers. These are made before anything is served.
 
-ghost use Rattle.std.specs.Prelude.{◌≡◌, ◌+◌, ◌≤◌, [], ◌∷◌, IfOk, IfErr, OnOk, length};
+ghost use Rattle.std.specs.Prelude.{◌≡◌, ◌+◌, ◌≤◌, [], ◌∷◌, IfOk, IfErr, IfSome, OnOk, length};
 ghost use Rattle.std.specs.Prelude.{map, string_bytes, vec_capacity};
 ghost use Rattle.std.specs.Io.KnownBytes.{Appends};
+ghost use Rattle.std.specs.Option.{is_some};
 ghost use Rattle.cells.specs.Events.{AreCells};
 ghost use Rattle.ruleset.specs.Rules.{KnowsOnly};
 ghost use Rattle.workers.specs.Texts.{serving_line};
@@ -17,10 +18,14 @@ use crate::counters::Counters;
 use crate::ended::{Ended, close_cells};
 use crate::last_values::{last_values, note_end};
 use crate::serving_fault::ServingFault;
+use crate::stored::run_stored;
 use crate::worker_list::worker_list;
 use bounded_files::ResourceFault;
+use counter_store::CounterStore;
+use counters_file::KeptFile;
 use halts::{halts_are_so, served_rules};
 use hot_swap::{Publisher, SwapFault, Watcher};
+use kept_cells::KeptCells;
 use operator::{Control, LastLoad, Loader, loads_go_on};
 use restart_laws::servers_count_as_one;
 use ruleset::LoadedRuleset;
@@ -33,7 +38,7 @@ use std::sync::{Arc, Wait};
 use std::thread::Threads;
 use std::time::Clock;
 use thread_laws::{threads_are_one_world, threads_grant_quotas};
-use workers::{Ports, ServeOptions, ServerParts, answers_are_runs, run};
+use workers::{Ports, ServeOptions, answers_are_runs};
 
 /// A server that has its counters, its publisher and its workers. `serve` or `close` ends it; it
 /// isn't dropped otherwise.
@@ -156,11 +161,13 @@ impl StaffedServer {
     }
 
     /// Serves until the operator stops the server, and returns the halted apps and all arrays, with
-    /// the counters' last values; those that aren't 0 have a line in the log. Once all threads exist, `out` gets the
-    /// ready line, with the generation, by one write. Later rulesets are from the loader. Returns
-    /// B4 if an allocation or a thread fails, before any client is answered and before anything is
-    /// written. Returns B3 if `out` can't be written, and H2 if a worker's watcher can't be read at
-    /// the end: the log then has this fault and the counters.
+    /// the counters' last values; those that aren't 0 have a line in the log. With a store the
+    /// counters are stored meanwhile, a reply that can't wait for that has status 503, and the
+    /// store's file is returned. Once all threads exist, `out` gets the ready line, with the
+    /// generation, by one write. Later rulesets are from the loader. Returns B4 if an allocation or
+    /// a thread fails, before any client is answered and before anything is written. Returns B3 if
+    /// `out` can't be written, and H2 if a worker's watcher can't be read at the end: the log then
+    /// has this fault and the counters.
     ///
     /// By `world` the counters are this server's. What all threads did to them is one legal history
     /// from their opening values, that of one world, under rulesets that the operator's lines
@@ -169,22 +176,28 @@ impl StaffedServer {
     /// quota is granted, and counts on from the servers before.
     // open: when B4, B3 or H2 is returned; that the log has the last values, and that the line
     // takes one write: tests.
-    pub fn serve<H, L, O>(
+    pub fn serve<H, L, F, O>(
         self,
         rt: &H,
         loader: &L,
+        store: Option<CounterStore<F>>,
         service: ServeOptions<'_>,
         out: &mut O,
-    ) -> Result<Counters, ServingFault>
+    ) -> Result<(Counters, Option<F>), ServingFault>
     where
         H: Threads + Wait + AllocGlobal + Clock + Sync,
         H: Net<Listener = TcpListener, Stream = TcpStream>,
         L: Loader,
+        F: KeptFile + Send + Drop,
         O: Write,
         requires some { 1 ≤ length self.workers.items }
         requires few { length self.workers.items ≤ 64 }
-        ensures world { IfOk result (λ left. LeavesOneWorld (L.loads loader.now) self.cells
-            self.control (map string_bytes left.halted.items) left.directory left.values.items) }
+        // The store begins with the server's counters.
+        requires numbers { IfSome store (λ s. s.ledger.numbers ≡ self.cells.opening) }
+        requires arrays { IfSome store (λ s. s.ledger.arrays ≡ self.control.arrays) }
+        ensures world { IfOk result (λ left. LeavesOneWorld (is_some store) (L.loads loader.now)
+            self.cells self.control (map string_bytes left.0.halted.items) left.0.directory
+            left.0.values.items) }
         ensures printed { OnOk result (Appends (O.contents out.old) (O.contents out.new)
             (serving_line self.control.publishing.latest.generation)) }
         ensures fault { IfErr result IsEndFault }
@@ -204,16 +217,23 @@ impl StaffedServer {
             room,
             values,
         } = self;
-        let parts = ServerParts {
+        let cells = KeptCells::of(cells);
+        let (back, file) = match run_stored(
+            rt,
+            ports,
             loader,
-            cells: &cells,
+            &cells,
+            store,
             service,
-        };
-        let back = match run(rt, ports, &parts, pass, &mut control, workers, out) {
-            Ok(back) => back,
+            pass,
+            &mut control,
+            workers,
+            out,
+        ) {
+            Ok((back, file)) => (back, file),
             Err(fault) => {
                 control.close(rt);
-                return Err(ServingFault::Resource(fault));
+                return Err(fault);
             }
         };
         let Ended {
@@ -221,16 +241,17 @@ impl StaffedServer {
             directory,
             halted,
             is_known,
-        } = close_cells(cells, back, room);
+        } = close_cells(cells.into_cells(), back, room);
         note_end(rt, service.log, is_known, directory.arrays(), &closed);
         let values = last_values(&closed, values);
         control.close(rt);
         if is_known {
-            Ok(Counters {
+            let counters = Counters {
                 halted,
                 directory,
                 values,
-            })
+            };
+            Ok((counters, file))
         } else {
             Err(ServingFault::Publisher(SwapFault::NoPlace))
         }

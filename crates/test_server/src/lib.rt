@@ -23,6 +23,8 @@ mod servers;
 #[cfg(test)]
 mod stopped;
 #[cfg(test)]
+mod stored;
+#[cfg(test)]
 mod swaps;
 #[cfg(test)]
 mod totals;

@@ -11,6 +11,8 @@ use crate::manifests::write_files;
 use crate::swaps::{FORTY, Swaps, THOUSAND, TWO, WHOLE, are_swapped};
 use crate::turns::{at_once, silent, silent_operator, slow};
 use bounded_files::Device;
+use counter_store::CounterStore;
+use counters_file::MemoryFile;
 use operator_request::OperatorRequest;
 use serving::{Counters, Manifests, Server, prepare};
 use std::io::{self, Write};
@@ -89,7 +91,8 @@ where
     let disk = Device::new(own.rt);
     let staffed = server.staffed(own, workers.clamp(1, 64));
     let server = staffed.expect(own.handles, "a server's staff");
-    let end = server.serve(own, &Manifests::of(&disk), service, &mut out);
+    let store = None::<CounterStore<MemoryFile>>;
+    let end = server.serve(own, &Manifests::of(&disk), store, service, &mut out);
     drop(end.expect(own.handles, "a server's end"));
     out.count == 1
 }

@@ -5,6 +5,7 @@ use crate::loopback::{is_dropped, sent};
 use crate::servers::service_of;
 use bounded_files::Device;
 use cells::{Directory, PlainCells};
+use cover::Uncovered;
 use hot_swap::Publisher;
 use operator::{Control, LastLoad};
 use ruleset::Ruleset;
@@ -14,7 +15,7 @@ use std::net::TcpListener;
 use std::process::Abort;
 use std::sync::atomic::AtomicBool;
 use std::sync::{Arc, Wait};
-use workers::{ServerParts, operate};
+use workers::{NoCounters, ServerParts, operate};
 
 /// A publisher of a ruleset without apps, with places for three watchers. It is ended by `close`.
 pub(crate) fn publisher_of<T: Abort + Wait>(own: &Impaired<'_, T>) -> Publisher {
@@ -53,6 +54,8 @@ fn is_ended_by_line<T: Abort + Wait>(own: &Impaired<'_, T>, listener: &TcpListen
     let parts = ServerParts {
         loader: &Manifests::of(&disk),
         cells: &cells,
+        cover: &Uncovered,
+        bell: &NoCounters,
         service: service_of(30),
     };
     let stop = AtomicBool::new(true);

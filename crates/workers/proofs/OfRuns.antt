@@ -8,6 +8,7 @@ use Rattle.std.specs.List.{last_or}
 use Rattle.std.proofs.lemmas.Bool.Decides.{nat_tests}
 use Rattle.std.proofs.lemmas.List.Elements.{All-cons, All-nil, All-from_recursion}
 use Rattle.answering.specs.Answer.{RepliesTo, RepliesToBody, RepliesToRequest, taken, rejected}
+use Rattle.answering.specs.Answer.{Sends, sent, withheld}
 use Rattle.answering.specs.Answer.{replied, unowned, broken_off, accepted, refused, unread}
 use Rattle.answering.specs.Apps.{RunsApp, RunsApps, no_updatecheck, unknown, ran, none}
 use Rattle.answering.specs.Apps as apps
@@ -26,7 +27,7 @@ use Rattle.ruleset.specs.Rules.{Rules, appid_of}
 use Rattle.workers.proofs.Turns.{turns_go_onwards}
 use Rattle.workers.specs.Answers.{made_in_turn}
 use Rattle.workers.specs.Runs.{AnswersAreOfRuns, runs_in_turn, runs_of_app, runs_of_apps}
-use Rattle.workers.specs.Runs.{runs_of_body, runs_of_reply, runs_of_request}
+use Rattle.workers.specs.Runs.{runs_of_body, runs_of_reply, runs_of_request, runs_of_sent}
 
 -- the laws of successive runs, from the crate below
 pub record Laws : Type 0 where
@@ -161,6 +162,12 @@ module _ (law : Laws) (watcher : KnownPrefix) (moment : ℤ) where
   of_reply input events reply (taken body is replies) = of_body body events reply replies
   of_reply input events reply (rejected fault status is code) = law.nothing watcher.rulesets
 
+  of_sent : (withholds : Bool) (input : Option (List ℕ)) (events : List CellEvent)
+      (reply : HttpReply) (was_sent : Sends withholds (RepliesTo input watcher moment) events reply)
+      → AreOfRuns watcher.rulesets (runs_of_sent was_sent) events
+  of_sent withholds input events reply (sent replies) = of_reply input events reply replies
+  of_sent withholds input events reply (withheld may replies) = of_reply input events _ replies
+
 -- ---- one answer after the other
 
 runs_stay : OfRunsStay → (v w : KnownPrefix) (runs : List AppRun) (events : List CellEvent)
@@ -170,11 +177,11 @@ runs_stay stay v w runs events goes of =
     (stay v.rulesets goes.onwards.0 runs events of)
 
 pub answers_are_of_runs : Laws → AnswersAreOfRuns
-answers_are_of_runs law from to [] turn = law.nothing to.rulesets
-answers_are_of_runs law from to (a ∷ later) turn =
-    let runs = runs_of_reply a.replies in
-    let goes = turns_go_onwards a.known to later turn.1 in
+answers_are_of_runs law withholds from to [] turn = law.nothing to.rulesets
+answers_are_of_runs law withholds from to (a ∷ later) turn =
+    let runs = runs_of_sent a.replies in
+    let goes = turns_go_onwards withholds a.known to later turn.1 in
     law.append to.rulesets runs (runs_in_turn later) a.events (made_in_turn later)
     (runs_stay law.stay a.known to runs a.events goes
-    (of_reply law a.known a.moment None a.events a.reply a.replies))
-    (answers_are_of_runs law a.known to later turn.1)
+    (of_sent law a.known a.moment withholds None a.events a.reply a.replies))
+    (answers_are_of_runs law withholds a.known to later turn.1)

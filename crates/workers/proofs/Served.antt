@@ -4,7 +4,7 @@ use Rattle.std.proofs.Common.{◌≡◌, ℕ, ◌+◌, ◌-◌, ◌^◌, min, Li
 use Rattle.std.proofs.Common.{length, refl, sym, subst, append-nil, arith, length-append}
 use Rattle.std.proofs.lemmas.List.Elements.{All-cons, All-nil}
 use Rattle.std.specs.List.{AllZip}
-use Rattle.std.specs.Prelude.{ℤ, false, Option, None, Result, Ok, Err, IfOk, IfErr}
+use Rattle.std.specs.Prelude.{Bool, ℤ, Option, None, Result, Ok, Err, IfOk, IfErr}
 use Rattle.std.specs.declared.thread.PromisedHandle.{PromisedHandle}
 use Rattle.std.proofs.lemmas.Grind.{flat_map-append}
 use Rattle.answering.specs.Answer.{RepliesByRuns, RepliesTo, WritesNothing, taken, rejected}
@@ -35,29 +35,33 @@ unknown_input input w moment events reply (taken body is replies) = taken body t
 unknown_input input w moment events reply (rejected fault status is code) =
     rejected fault status tt code
 
--- no reply is withheld
-as_due : {due : List CellEvent → HttpReply → Type 0} {events : List CellEvent}
-    {reply : HttpReply} → Sends false due events reply → due events reply
-as_due (sent is) = is
-as_due (withheld may is) = absurd cc
+sent_to_unknown : (withholds : Bool) (input : Option (List ℕ)) (w : KnownPrefix) (moment : ℤ)
+    (events : List CellEvent) (reply : HttpReply)
+    → Sends withholds (RepliesTo input w moment) events reply
+    → Sends withholds (RepliesTo None w moment) events reply
+sent_to_unknown withholds input w moment events reply (sent replies) =
+    sent (unknown_input input w moment events reply replies)
+sent_to_unknown withholds input w moment events reply (withheld may replies) =
+    withheld may (unknown_input input w moment events _ replies)
 
-abbrev IsAt : ℤ → WorkerAnswer → Type 0
+abbrev IsAt : {withholds : Bool} → ℤ → WorkerAnswer withholds → Type 0
 IsAt moment answer = answer.moment ≡ moment
 
-module _ {P : Type 0} (belongs : P → Type 0) (grew : P → CellEvent → P → Type 0)
+module _ {P : Type 0} (withholds : Bool) (belongs : P → Type 0)
+    (grew : P → CellEvent → P → Type 0)
     (input : Option (List ℕ)) (v w : KnownPrefix) (moment : ℤ) (p q : P) (here : belongs q)
     (goes : Extends v w) where
-  by_reply : (reply : HttpReply) → RepliesByRuns false grew input w moment p q reply
-      → MomentBack belongs grew moment (p, v) (q, w)
+  by_reply : (reply : HttpReply) → RepliesByRuns withholds grew input w moment p q reply
+      → MomentBack withholds belongs grew moment (p, v) (q, w)
   by_reply reply is =
-      let answer : WorkerAnswer = record {
+      let answer : WorkerAnswer withholds = record {
         known = w;
         moment = moment;
         events = is.events;
         reply = reply;
-        replies = unknown_input input w moment is.events reply (as_due is.of);
+        replies = sent_to_unknown withholds input w moment is.events reply is.of;
       } in
-      let back : WorkerBack belongs grew (p, v) (q, w) = record {
+      let back : WorkerBack withholds belongs grew (p, v) (q, w) = record {
         belongs_yet = here;
         answers = answer ∷ [];
         in_turn = (goes, goes_nowhere w);
@@ -69,9 +73,9 @@ module _ {P : Type 0} (belongs : P → Type 0) (grew : P → CellEvent → P →
         moments_are = All-cons (IsAt moment) answer [] refl (All-nil (IsAt moment));
       }
 
-  did_nothing : q ≡ p → MomentBack belongs grew moment (p, v) (q, w)
+  did_nothing : q ≡ p → MomentBack withholds belongs grew moment (p, v) (q, w)
   did_nothing same =
-      let back : WorkerBack belongs grew (p, v) (q, w) =
+      let back : WorkerBack withholds belongs grew (p, v) (q, w) =
       record { belongs_yet = here; answers = []; in_turn = goes; grown = same } in
       record {
         connection = record { back = back; once = omega arith };
@@ -82,12 +86,12 @@ module _ {P : Type 0} (belongs : P → Type 0) (grew : P → CellEvent → P →
   pub by_answer : {S : Type 0} (outcome : Result S AnswerFault) (X Y Z : S → HttpReply → Type 0)
       (U V : ℕ → HttpReply → Type 0) (T : Type 0)
       → IfOk outcome (λ out. (reply : HttpReply) × X out reply × Y out reply
-      × RepliesByRuns false grew input w moment p q reply × Z out reply)
+      × RepliesByRuns withholds grew input w moment p q reply × Z out reply)
       → ((n : ℕ) → outcome ≡ Err (Writing n)
       → (reply : HttpReply) × U n reply
-      × RepliesByRuns false grew input w moment p q reply × V n reply)
+      × RepliesByRuns withholds grew input w moment p q reply × V n reply)
       → IfErr outcome (λ e. WritesNothing e → (q ≡ p) × T)
-      → MomentBack belongs grew moment (p, v) (q, w)
+      → MomentBack withholds belongs grew moment (p, v) (q, w)
   by_answer (Ok out) X Y Z U V T replied begun unread = by_reply replied.0 replied.3
   by_answer (Err (Writing n)) X Y Z U V T replied begun unread =
       let some = begun n refl in by_reply some.0 some.2
@@ -96,8 +100,10 @@ module _ {P : Type 0} (belongs : P → Type 0) (grew : P → CellEvent → P →
 
 -- ---- one after the other
 
-module _ {P : Type 0} (belongs : P → Type 0) (grew : P → CellEvent → P → Type 0) where
-  pub back_at_once : (p : P) (w : KnownPrefix) → belongs p → WorkerBack belongs grew (p, w) (p, w)
+module _ {P : Type 0} (withholds : Bool) (belongs : P → Type 0)
+    (grew : P → CellEvent → P → Type 0) where
+  pub back_at_once : (p : P) (w : KnownPrefix) → belongs p
+      → WorkerBack withholds belongs grew (p, w) (p, w)
   back_at_once p w here = record {
     belongs_yet = here;
     answers = [];
@@ -106,15 +112,16 @@ module _ {P : Type 0} (belongs : P → Type 0) (grew : P → CellEvent → P →
   }
 
   pub unread : (moment : ℤ) (p : P) (w : KnownPrefix) → belongs p
-      → MomentBack belongs grew moment (p, w) (p, w)
+      → MomentBack withholds belongs grew moment (p, w) (p, w)
   unfolding back_at_once
   unread moment p w here = record {
     connection = record { back = back_at_once p w here; once = omega arith };
     moments_are = All-nil (IsAt moment);
   }
 
-  pub back_later : GrowsByAppend grew → (a b c : P × KnownPrefix) → WorkerBack belongs grew a b
-      → WorkerBack belongs grew b c → WorkerBack belongs grew a c
+  pub back_later : GrowsByAppend grew → (a b c : P × KnownPrefix)
+      → WorkerBack withholds belongs grew a b → WorkerBack withholds belongs grew b c
+      → WorkerBack withholds belongs grew a c
   back_later join a b c first last =
       let early = first.answers in
       let late = last.answers in
@@ -123,13 +130,13 @@ module _ {P : Type 0} (belongs : P → Type 0) (grew : P → CellEvent → P →
         answers = early ++ late;
         in_turn = turns_join a.1 b.1 c.1 early late first.in_turn last.in_turn;
         grown = subst (λ (es : List CellEvent). GrewBy grew a.0 es c.0)
-            (sym (flat_map-append (λ (x : WorkerAnswer). x.events) early late))
+            (sym (flat_map-append (λ (x : WorkerAnswer withholds). x.events) early late))
             (join a.0 (made_in_turn early) b.0 (made_in_turn late) c.0 first.grown last.grown);
       }
 
   -- before any connection is taken
   pub none_taken : (calls : ℕ) (p : P) (w : KnownPrefix) → belongs p
-      → ConnectionsBack belongs grew calls (p, w) (p, w)
+      → ConnectionsBack withholds belongs grew calls (p, w) (p, w)
   unfolding back_at_once
   none_taken calls p w here = record {
     back = back_at_once p w here;
@@ -138,8 +145,9 @@ module _ {P : Type 0} (belongs : P → Type 0) (grew : P → CellEvent → P →
 
   -- one connection more
   pub one_taken : GrowsByAppend grew → (calls more : ℕ) → more ≡ min (calls + 1) (2 ^ 64 - 1)
-      → (a b c : P × KnownPrefix) → ConnectionsBack belongs grew calls a b
-      → ConnectionBack belongs grew b c → ConnectionsBack belongs grew more a c
+      → (a b c : P × KnownPrefix) → ConnectionsBack withholds belongs grew calls a b
+      → ConnectionBack withholds belongs grew b c
+      → ConnectionsBack withholds belongs grew more a c
   unfolding back_later
   one_taken join calls more counts a b c old one =
       let early = old.back.answers in
@@ -153,48 +161,56 @@ module _ {P : Type 0} (belongs : P → Type 0) (grew : P → CellEvent → P →
       }
 
 -- the same, if the cells are equal
-pub one_on : {X P : Type 0} (belongs : X → P → Type 0) (grew : P → CellEvent → P → Type 0)
-    → GrowsByAppend grew → (first later : X) → later ≡ first → (calls more : ℕ)
+pub one_on : {X P : Type 0} (withholds : Bool) (belongs : X → P → Type 0)
+    (grew : P → CellEvent → P → Type 0) → GrowsByAppend grew
+    → (first later : X) → later ≡ first → (calls more : ℕ)
     → more ≡ min (calls + 1) (2 ^ 64 - 1) → (a b c : P × KnownPrefix)
-    → ConnectionsBack (belongs first) grew calls a b → ConnectionBack (belongs later) grew b c
-    → ConnectionsBack (belongs first) grew more a c
-one_on belongs grew join first later same calls more counts a b c old one =
-    one_taken (belongs first) grew join calls more counts a b c old
-    (subst (λ x. ConnectionBack (belongs x) grew b c) same one)
+    → ConnectionsBack withholds (belongs first) grew calls a b
+    → ConnectionBack withholds (belongs later) grew b c
+    → ConnectionsBack withholds (belongs first) grew more a c
+one_on withholds belongs grew join first later same calls more counts a b c old one =
+    one_taken withholds (belongs first) grew join calls more counts a b c old
+    (subst (λ x. ConnectionBack withholds (belongs x) grew b c) same one)
 
 -- ---- workers whose threads promised to return them
 
-abbrev WorkerThread : (X P : Type 0) → Type 0
-WorkerThread X P = PromisedHandle (P × KnownPrefix) (WorkerPromise X P)
+abbrev WorkerThread : (X Y P : Type 0) → Type 0
+WorkerThread X Y P = PromisedHandle (P × KnownPrefix) (WorkerPromise X Y P)
 
--- what is kept for a promise's own cells and worker is kept for the equal ones
-kept_of : {X W : Type 0} (Kept : X → W → Type 0) (cells x : X) (given w : W) → x ≡ cells
-    → w ≡ given → Kept x w → Kept cells given
-kept_of Kept cells x given w over is kept =
-    subst (λ it. Kept cells it) is (subst (λ it. Kept it w) over kept)
+-- what is kept for a promise's own cells, cover and worker is kept for the equal ones
+kept_of : {X Y W : Type 0} (Kept : X → Y → W → Type 0) (cells x : X) (cover y : Y) (given w : W)
+    → x ≡ cells → y ≡ cover → w ≡ given → Kept x y w → Kept cells cover given
+kept_of Kept cells x cover y given w over by is kept =
+    subst (λ it. Kept cells cover it) is
+    (subst (λ it. Kept cells it w) by (subst (λ it. Kept it y w) over kept))
 
-module _ {X P : Type 0} (belongs : X → P → Type 0) (grew : P → CellEvent → P → Type 0)
-    (cells : X) where
-  is_back : (worker : P × KnownPrefix) (promise : WorkerPromise X P) (back : P × KnownPrefix)
-      → IsPromiseOf cells worker promise
-      → WorkerBack (belongs promise.cells.value) grew promise.given.value back
-      → WorkerBack (belongs cells) grew worker back
+module _ {X Y P : Type 0} (withholds : Y → Bool) (belongs : X → P → Type 0)
+    (grew : P → CellEvent → P → Type 0) (cells : X) (cover : Y) where
+  is_back : (worker : P × KnownPrefix) (promise : WorkerPromise X Y P) (back : P × KnownPrefix)
+      → IsPromiseOf cells cover worker promise
+      → WorkerBack (withholds promise.cover.value) (belongs promise.cells.value) grew
+      promise.given.value back
+      → WorkerBack (withholds cover) (belongs cells) grew worker back
   is_back worker promise back is =
-      kept_of (λ (x : X) (w : P × KnownPrefix). WorkerBack (belongs x) grew w back)
-      cells promise.cells.value worker promise.given.value is.cells_are is.worker_is
+      kept_of
+      (λ (x : X) (y : Y) (w : P × KnownPrefix). WorkerBack (withholds y) (belongs x) grew w back)
+      cells promise.cells.value cover promise.cover.value worker promise.given.value
+      is.cells_are is.cover_is is.worker_is
 
-  pub all_back : (workers : List (P × KnownPrefix)) (threads : List (WorkerThread X P))
+  pub all_back : (workers : List (P × KnownPrefix)) (threads : List (WorkerThread X Y P))
       (back : List (P × KnownPrefix))
-      → AllZip (λ (worker : P × KnownPrefix) (thread : WorkerThread X P).
-      IsPromiseOf cells worker thread.promise) workers threads
-      → AllZip (λ (thread : WorkerThread X P) (new : P × KnownPrefix).
-      WorkerBack (belongs thread.promise.cells.value) grew thread.promise.given.value new)
+      → AllZip (λ (worker : P × KnownPrefix) (thread : WorkerThread X Y P).
+      IsPromiseOf cells cover worker thread.promise) workers threads
+      → AllZip (λ (thread : WorkerThread X Y P) (new : P × KnownPrefix).
+      WorkerBack (withholds thread.promise.cover.value) (belongs thread.promise.cells.value) grew
+      thread.promise.given.value new)
       threads back
-      → WorkersBack (belongs cells) grew workers back
+      → WorkersBack (withholds cover) (belongs cells) grew workers back
   all_back = zip_through
-      (λ (worker : P × KnownPrefix) (thread : WorkerThread X P).
-      IsPromiseOf cells worker thread.promise)
-      (λ (thread : WorkerThread X P) (new : P × KnownPrefix).
-      WorkerBack (belongs thread.promise.cells.value) grew thread.promise.given.value new)
-      (WorkerBack (belongs cells) grew)
+      (λ (worker : P × KnownPrefix) (thread : WorkerThread X Y P).
+      IsPromiseOf cells cover worker thread.promise)
+      (λ (thread : WorkerThread X Y P) (new : P × KnownPrefix).
+      WorkerBack (withholds thread.promise.cover.value) (belongs thread.promise.cells.value) grew
+      thread.promise.given.value new)
+      (WorkerBack (withholds cover) (belongs cells) grew)
       (λ worker thread new is kept. is_back worker thread.promise new is kept)

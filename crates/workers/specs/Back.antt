@@ -1,6 +1,6 @@
 -- What the threads of a server return once they have ended. Their passes, which are ghost tokens,
 -- have what was done by them, and their watchers have what they know.
-use Rattle.std.specs.Prelude.{◌≡◌, ◌≤◌, ◌<◌, ◌^◌, ◌-◌, ℕ, ℤ, List, All, length, map}
+use Rattle.std.specs.Prelude.{◌≡◌, Bool, ◌≤◌, ◌<◌, ◌^◌, ◌-◌, ℕ, ℤ, List, All, length, map}
 use Rattle.std.specs.Prelude.{string_bytes}
 use Rattle.std.specs.List.{AllZip}
 use Rattle.cells.specs.Directory.{IsDirectory}
@@ -20,12 +20,13 @@ pub record IsPublished (published : KnownPrefix) (generation : ℕ) : Type 0 whe
   pub rules : Rules
   pub last : IsLatest published generation rules
 
-module _ {P : Type 0} (belongs : P → Type 0) (grew : P → CellEvent → P → Type 0) where
+module _ {P : Type 0} (withholds : Bool) (belongs : P → Type 0)
+    (grew : P → CellEvent → P → Type 0) where
   -- A worker, its pass and its watcher, which gave these answers, one after the other. The pass
   -- belongs to the cells, and grew only by what the answers did.
   pub record WorkerBack (old new : P × KnownPrefix) : Type 0 where
     pub belongs_yet : belongs new.0
-    pub answers : List WorkerAnswer
+    pub answers : List (WorkerAnswer withholds)
     pub in_turn : AreInTurn old.1 answers new.1
     pub grown : GrewBy grew old.0 (made_in_turn answers) new.0
 
@@ -49,30 +50,33 @@ module _ {P : Type 0} (belongs : P → Type 0) (grew : P → CellEvent → P →
   abbrev pub WorkersBack : (old new : List (P × KnownPrefix)) → Type 0
   WorkersBack old new = AllZip WorkerBack old new
 
-  module _ {F : Type 0} (loads : Loading F) where
-    -- The operator's thread at its end, with its pass and its control. It answered lines, one after
-    -- the other: at most one for each accepted connection, unless their count overflows.
-    -- Its pass belongs to the cells, and grew only by what the lines read. Its end says whether a
-    -- stop was requested.
-    pub record OperatorBack (end : OperatorEnd) (old new : P × Controlled) : Type 0 where
-      pub belongs_yet : belongs new.0
-      pub lines : List (AnsweredLine F)
-      pub reads : List CellEvent
-      pub led : LinesLead loads old.1 lines reads new.1
-      pub grown : GrewBy grew old.0 reads new.0
-      pub at_most_one : end.accepted < 2 ^ 64 - 1 → length lines ≤ end.accepted
-      pub stop_is : end.is_requested ≡ new.1.is_stopping
+module _ {F P : Type 0} (belongs : P → Type 0) (grew : P → CellEvent → P → Type 0)
+    (loads : Loading F) where
+  -- The operator's thread at its end, with its pass and its control. It answered lines, one after
+  -- the other: at most one for each accepted connection, unless their count overflows.
+  -- Its pass belongs to the cells, and grew only by what the lines read. Its end says whether a
+  -- stop was requested.
+  pub record OperatorBack (end : OperatorEnd) (old new : P × Controlled) : Type 0 where
+    pub belongs_yet : belongs new.0
+    pub lines : List (AnsweredLine F)
+    pub reads : List CellEvent
+    pub led : LinesLead loads old.1 lines reads new.1
+    pub grown : GrewBy grew old.0 reads new.0
+    pub at_most_one : end.accepted < 2 ^ 64 - 1 → length lines ≤ end.accepted
+    pub stop_is : end.is_requested ≡ new.1.is_stopping
 
-    -- All that is returned by a server that began with this pass of its operator, these workers and
-    -- this control. The operator's lines, and nothing else, led from that control to the one at its
-    -- end. What was published then, its arrays and its halted apps, are also returned.
-    pub record ServerBack (pass : P) (staff : List (P × KnownPrefix)) (control : Controlled)
-        (back : Returned P) : Type 0 where
-      pub last : Controlled
-      pub operator : OperatorBack back.end (pass, control) (back.operator, last)
-      pub workers : WorkersBack staff back.workers.items
-      pub directory : IsDirectory last.arrays
-      pub arrays_are : back.directory ≡ last.arrays
-      pub halted_are : map string_bytes back.halted.items ≡ last.halted
-      pub published_are : back.published ≡ last.publishing.known
-      pub published : IsPublished back.published back.generation
+module _ {F P : Type 0} (withholds : Bool) (belongs : P → Type 0)
+    (grew : P → CellEvent → P → Type 0) (loads : Loading F) where
+  -- All that is returned by a server that began with this pass of its operator, these workers and
+  -- this control. The operator's lines, and nothing else, led from that control to the one at its
+  -- end. What was published then, its arrays and its halted apps, are also returned.
+  pub record ServerBack (pass : P) (staff : List (P × KnownPrefix)) (control : Controlled)
+      (back : Returned P) : Type 0 where
+    pub last : Controlled
+    pub operator : OperatorBack belongs grew loads back.end (pass, control) (back.operator, last)
+    pub workers : WorkersBack withholds belongs grew staff back.workers.items
+    pub directory : IsDirectory last.arrays
+    pub arrays_are : back.directory ≡ last.arrays
+    pub halted_are : map string_bytes back.halted.items ≡ last.halted
+    pub published_are : back.published ≡ last.publishing.known
+    pub published : IsPublished back.published back.generation

@@ -1,6 +1,6 @@
 -- The runs of a worker's answers: those of each request, app after app, each to its end.
-use Rattle.std.specs.Prelude.{ℕ, ℤ, List, [], ◌∷◌, ◌++◌, Option, flat_map}
-use Rattle.answering.specs.Answer.{RepliesTo, taken, rejected}
+use Rattle.std.specs.Prelude.{Bool, ℕ, ℤ, List, [], ◌∷◌, ◌++◌, Option, flat_map}
+use Rattle.answering.specs.Answer.{RepliesTo, taken, rejected, Sends, sent, withheld}
 use Rattle.answering.specs.Answer.{RepliesToBody, accepted, refused, unread}
 use Rattle.answering.specs.Answer.{RepliesToRequest, replied, unowned, broken_off}
 use Rattle.answering.specs.Apps.{RunsApp, RunsApps, no_updatecheck, unknown, ran, none}
@@ -67,14 +67,22 @@ abbrev pub runs_of_reply : {input : Option (List ℕ)} {known : KnownPrefix} {mo
 runs_of_reply (taken body is replies) = runs_of_body replies
 runs_of_reply (rejected fault status is code) = []
 
+-- the runs for what was sent: a reply that is withheld has those of the reply that was due
+abbrev pub runs_of_sent : {withholds : Bool} {input : Option (List ℕ)} {known : KnownPrefix}
+    {moment : ℤ} {events : List CellEvent} {reply : HttpReply}
+    → Sends withholds (RepliesTo input known moment) events reply → List AppRun
+runs_of_sent (sent replies) = runs_of_reply replies
+runs_of_sent (withheld may replies) = runs_of_reply replies
+
 -- the runs of answers, one after the other
-abbrev pub runs_in_turn : List WorkerAnswer → List AppRun
-runs_in_turn = flat_map (λ answer. runs_of_reply answer.replies)
+abbrev pub runs_in_turn : {withholds : Bool} → List (WorkerAnswer withholds) → List AppRun
+runs_in_turn = flat_map (λ answer. runs_of_sent answer.replies)
 
 -- ---- the law
 
 -- what answers in turn did to the counters is what their runs did; each run ended, under a ruleset
 -- that the watcher knows after them
 abbrev pub AnswersAreOfRuns : Type 0
-AnswersAreOfRuns = (from to : KnownPrefix) (answers : List WorkerAnswer) → AreInTurn from answers to
+AnswersAreOfRuns = (withholds : Bool) (from to : KnownPrefix)
+    (answers : List (WorkerAnswer withholds)) → AreInTurn from answers to
     → AreOfRuns to.rulesets (runs_in_turn answers) (made_in_turn answers)

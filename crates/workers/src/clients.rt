@@ -10,6 +10,7 @@ use crate::queue::{WAITING, fill};
 use crate::serve_fault::ServeFault;
 use crate::stopping::StopFlags;
 use cells::CellSteps;
+use cover::Uncovered;
 use crossbeam_channel::Sender;
 use hot_swap::Watcher;
 use server_log::LogQueue;
@@ -44,7 +45,8 @@ where
     requires few { length workers.items ≤ 64 }
 {
     let ended = AtomicBool::new(false);
-    let crew = Crew::new(gate, service, workers.len(), &ended);
+    let cover = Uncovered;
+    let crew = Crew::new(gate, &cover, service, workers.len(), &ended);
     let Ok((queue, from)) = crossbeam_channel::bounded::<Call, _>(rt.alloc(), WAITING) else {
         return Err(ServeFault::Memory);
     };

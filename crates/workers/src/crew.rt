@@ -13,6 +13,7 @@ use crate::serve_fault::ServeFault;
 use crate::worker::work;
 use cells::CellSteps;
 use core::thread::Stack;
+use cover::Cover;
 use crossbeam_channel::Receiver;
 use hot_swap::Watcher;
 use std::snapshot::Snapshot;
@@ -26,22 +27,24 @@ const STACK_BYTES: usize = 2097152;
 
 /// Starts a thread for each worker, in their order. Returns B4 if a thread can't be started; the
 /// others end once the queue is closed.
-pub(crate) fn start_workers<'s, E, H, G, C>(
+pub(crate) fn start_workers<'s, E, H, G, C, K>(
     rt: &'s H,
     scope: &Scope<'s, E>,
-    crew: &'s Crew<'s, G>,
+    crew: &'s Crew<'s, G, K>,
     queue: Receiver<Call>,
     cells: &'s C,
     workers: Vec<(C::Pass, Watcher)>,
-) -> Result<Vec<PromisedHandle<(C::Pass, Watcher), WorkerPromise<C>>>, ServeFault>
+) -> Result<Vec<PromisedHandle<(C::Pass, Watcher), WorkerPromise<C, K>>>, ServeFault>
 where
     H: Wait + AllocGlobal + Clock + Sync,
     G: Gate + Sync,
     C: CellSteps + Sync,
     C::Pass: Send + Drop + 's,
+    K: Cover<C> + Sync,
+    K::Receipt: Send + Drop + 's,
     requires { All (λ worker. C.belongs cells.now worker.0) workers.items }
     ensures { IfOk result (λ threads.
-        AllZip (λ worker thread. IsPromiseOf cells.now worker thread.promise)
+        AllZip (λ worker thread. IsPromiseOf cells.now crew.now.cover.now worker thread.promise)
         workers.items threads.items) }
 {
     let mut threads = Vec::new(rt.alloc());
@@ -59,24 +62,28 @@ where
     Ok(threads)
 }
 
-fn start_worker<'s, E, H, G, C>(
+fn start_worker<'s, E, H, G, C, K>(
     rt: &'s H,
     scope: &Scope<'s, E>,
-    crew: &'s Crew<'s, G>,
+    crew: &'s Crew<'s, G, K>,
     queue: Receiver<Call>,
     cells: &'s C,
     worker: (C::Pass, Watcher),
-) -> Result<PromisedHandle<(C::Pass, Watcher), WorkerPromise<C>>, ServeFault>
+) -> Result<PromisedHandle<(C::Pass, Watcher), WorkerPromise<C, K>>, ServeFault>
 where
     H: Wait + AllocGlobal + Clock + Sync,
     G: Gate + Sync,
     C: CellSteps + Sync,
     C::Pass: Send + Drop + 's,
+    K: Cover<C> + Sync,
+    K::Receipt: Send + Drop + 's,
     requires { C.belongs cells.now worker.0 }
-    ensures { IfOk result (λ thread. IsPromiseOf cells.now worker thread.promise) }
+    ensures { IfOk result
+        (λ thread. IsPromiseOf cells.now crew.now.cover.now worker thread.promise) }
 {
     let promise = WorkerPromise {
         cells: Snapshot::of(cells),
+        cover: Snapshot::of(crew.cover),
         given: Snapshot::of(&worker),
     };
     let job = move || work(rt, crew, queue, cells, worker);

@@ -23,6 +23,7 @@
 mod accept;
 mod clients;
 mod clock;
+mod counter_thread;
 mod crew;
 mod gate;
 mod laws;
@@ -41,6 +42,7 @@ mod worker;
 
 pub use accept::OperatorEnd;
 pub use clients::serve;
+pub use counter_thread::{Bell, CounterThread, NoCounters};
 pub use gate::Gate;
 pub use laws::answers_are_runs;
 pub use operating::operate;

@@ -8,6 +8,7 @@ ghost use Rattle.workers.specs.Back.{OperatorBack};
 
 use crate::accept::{OperatorEnd, Port};
 use crate::clock::Limits;
+use crate::counter_thread::{Bell, note_change};
 use crate::parts::ServerParts;
 use cells::{CellSteps, growth};
 use net_io::{Counted, Timed, drain};
@@ -31,10 +32,10 @@ const OPERATOR_SECONDS: u64 = 5;
 /// A connection that fails, or can't be accepted, is skipped.
 // open: which bytes a socket carries; that requests are answered one after another, and that it
 // returns only after a requested stop, or if the flag was set: tests.
-pub fn operate<'x, H, L, C>(
+pub fn operate<'x, H, L, C, K, B>(
     rt: &H,
     listener: &'x TcpListener,
-    parts: &ServerParts<'_, L, C>,
+    parts: &ServerParts<'_, L, C, K, B>,
     pass: &mut C::Pass,
     control: &mut Control,
     stop: &'x AtomicBool,
@@ -43,6 +44,7 @@ where
     H: Wait + AllocGlobal + Clock,
     L: Loader,
     C: CellSteps,
+    B: Bell,
     requires { C.belongs parts.now.cells.now pass.old }
     ensures { OperatorBack (C.belongs parts.now.cells.now) C.grew (L.loads parts.now.loader.now)
         result (pass.old, control.old) (pass.new, control.new) }
@@ -67,11 +69,11 @@ where
 }
 
 // Answers one connection, and returns the reply; `None` if no line could be read.
-fn attend<'x, H, L, C>(
+fn attend<'x, H, L, C, K, B>(
     rt: &'x H,
     stream: &'x TcpStream,
     limit: Duration,
-    parts: &ServerParts<'_, L, C>,
+    parts: &ServerParts<'_, L, C, K, B>,
     pass: &mut C::Pass,
     control: &mut Control,
 ) -> Option<OperatorReply<L::Fault>>
@@ -79,6 +81,7 @@ where
     H: Wait + AllocGlobal + Clock,
     L: Loader,
     C: CellSteps,
+    B: Bell,
     requires { C.belongs parts.now.cells.now pass.old }
     ensures belongs { C.belongs parts.now.cells.now pass.new }
     // The reply is that to a line,
@@ -92,6 +95,7 @@ where
     };
     let loader = parts.loader;
     let log = parts.service.log;
+    let before = control.generation();
     let timed = Timed::new(stream, rt, limits.until());
     let mut reader = Counted::new(Recorder::new(rt.alloc(), timed, log.is_some()));
     let Some(reply) = answer(
@@ -106,6 +110,7 @@ where
     ) else {
         return None;
     };
+    note_change(rt, parts.bell, before, control);
     let _sent = send(rt, stream, &reply, limit);
     note_request(rt, log, reader.into_inner(), loader, control, &reply);
     Some(reply)

@@ -1,5 +1,7 @@
 //! What a server works with, and what its workers share.
 
+ghost use Rattle.std.specs.Prelude.{◌≡◌};
+
 use crate::gate::Gate;
 use server_log::LogQueue;
 use std::sync::atomic::{AtomicBool, AtomicU64, Ordering};
@@ -18,16 +20,21 @@ pub struct ServeOptions<'a> {
 
 /// What a server works with: the loader of its rulesets, its counters, its time limit and its log.
 #[derive(Drop)]
-pub struct ServerParts<'a, L, C> {
+pub struct ServerParts<'a, L, C, K, B> {
     pub loader: &'a L,
     pub cells: &'a C,
+    /// What replies wait for that depend on counters.
+    pub cover: &'a K,
+    /// How the thread is called that stores the counters.
+    pub bell: &'a B,
     pub service: ServeOptions<'a>,
 }
 
 /// What the workers of a server share besides the counters.
 #[derive(Drop)]
-pub(crate) struct Crew<'a, G> {
+pub(crate) struct Crew<'a, G, K> {
     pub(crate) gate: &'a G,
+    pub(crate) cover: &'a K,
     pub(crate) service: ServeOptions<'a>,
     /// How many workers haven't ended.
     running: AtomicU64,
@@ -35,16 +42,20 @@ pub(crate) struct Crew<'a, G> {
     ended: &'a AtomicBool,
 }
 
-impl<'a, G: Gate> Crew<'a, G> {
+impl<'a, G: Gate, K> Crew<'a, G, K> {
     /// A crew of this number of workers. The last one that ends sets the flag.
     pub(crate) fn new(
         gate: &'a G,
+        cover: &'a K,
         service: ServeOptions<'a>,
         workers: usize,
         ended: &'a AtomicBool,
-    ) -> Crew<'a, G> {
+    ) -> Crew<'a, G, K>
+        ensures { result.cover.now ≡ cover.now }
+    {
         Crew {
             gate,
+            cover,
             service,
             running: AtomicU64::new(workers as u64),
             ended,

@@ -6,11 +6,11 @@ ghost use Rattle.workers.specs.Back.{ConnectionBack, ConnectionsBack, MomentBack
 use crate::accept::Call;
 use crate::clock::{Limits, begun, micros_between, unix_second};
 use crate::gate::Gate;
-use crate::parts::{Crew, ServeOptions};
+use crate::parts::Crew;
 use crate::queue::Calls;
 use answering::{AnswerBuffers, AnswerFault, Sent, Turn, answer_in};
 use cells::{CellSteps, growth};
-use cover::Uncovered;
+use cover::Cover;
 use crossbeam_channel::Receiver;
 use hot_swap::Watcher;
 use net_io::{Counted, Timed, drain, take_rest};
@@ -33,9 +33,9 @@ where
 }
 
 /// Answers until the queue is closed, and returns the pass and the watcher.
-pub(crate) fn work<H, G, C>(
+pub(crate) fn work<H, G, C, K>(
     rt: &H,
-    crew: &Crew<'_, G>,
+    crew: &Crew<'_, G, K>,
     queue: Receiver<Call>,
     cells: &C,
     worker: (C::Pass, Watcher),
@@ -45,8 +45,10 @@ where
     G: Gate,
     C: CellSteps,
     C::Pass: Drop,
+    K: Cover<C>,
     requires { C.belongs cells.now worker.0 }
-    ensures { WorkerBack (C.belongs cells.now) C.grew worker result }
+    ensures { WorkerBack (K.withholds crew.now.cover.now) (C.belongs cells.now) C.grew worker
+        result }
 {
     let (pass, watcher) = worker;
     let mut seat = WorkerSeat {
@@ -68,57 +70,65 @@ where
 }
 
 // Answers connections, one after another, until the queue is closed.
-fn attend_all<H, G, C>(rt: &H, crew: &Crew<'_, G>, calls: &mut Calls, seat: &mut WorkerSeat<'_, C>)
+fn attend_all<H, G, C, K>(
+    rt: &H,
+    crew: &Crew<'_, G, K>,
+    calls: &mut Calls,
+    seat: &mut WorkerSeat<'_, C>,
+)
 where
     H: Wait + AllocGlobal + Clock,
     G: Gate,
     C: CellSteps,
     C::Pass: Drop,
+    K: Cover<C>,
     requires first { calls.old.taken ≡ 0 }
     requires belongs { C.belongs seat.old.cells.now seat.old.pass }
     // No connection that was taken has two answers.
-    ensures { ConnectionsBack (C.belongs seat.old.cells.now) C.grew calls.new.taken
-        (seat.old.pass, seat.old.watcher) (seat.new.pass, seat.new.watcher) }
+    ensures { ConnectionsBack (K.withholds crew.now.cover.now) (C.belongs seat.old.cells.now)
+        C.grew calls.new.taken (seat.old.pass, seat.old.watcher) (seat.new.pass, seat.new.watcher) }
 {
     growth::<C>();
-    let service = crew.service;
-    let mut log = Log::new(rt.alloc(), service.log);
+    let mut log = Log::new(rt.alloc(), crew.service.log);
     let mut recorded = ConnectionRecord::new(rt.alloc(), log.is_kept());
     for _ in rt.forever() {
         let Some(call) = calls.take(rt, &mut log) else {
             return;
         };
         crew.gate.before(call.number);
-        let _attended = attend(rt, &call, seat, service, &mut log, &mut recorded);
+        let _attended = attend(rt, &call, seat, crew, &mut log, &mut recorded);
         crew.gate.after(call.number);
     }
 }
 
 // Answers one connection.
-fn attend<H, C>(
+fn attend<H, G, C, K>(
     rt: &H,
     call: &Call,
     seat: &mut WorkerSeat<'_, C>,
-    service: ServeOptions<'_>,
+    crew: &Crew<'_, G, K>,
     log: &mut Log<'_>,
     recorded: &mut ConnectionRecord,
 ) -> io::Result<()>
 where
     H: Wait + AllocGlobal + Clock,
+    G: Gate,
     C: CellSteps,
     C::Pass: Drop,
+    K: Cover<C>,
     requires { C.belongs seat.old.cells.now seat.old.pass }
     ensures cells { seat.new.cells ≡ seat.old.cells }
-    ensures back { ConnectionBack (C.belongs seat.old.cells.now) C.grew
-        (seat.old.pass, seat.old.watcher) (seat.new.pass, seat.new.watcher) }
+    ensures back { ConnectionBack (K.withholds crew.now.cover.now) (C.belongs seat.old.cells.now)
+        C.grew (seat.old.pass, seat.old.watcher) (seat.new.pass, seat.new.watcher) }
 {
+    let service = crew.service;
     let moment = unix_second(rt);
     log.flush_earlier(rt, moment);
     let limits = Limits::begin(rt, service.timeout);
     let waited = micros_between(call.accepted, begun(limits));
     count_begun(service.log, waited);
     recorded.begin();
-    let outcome = answer_within(rt, &call.stream, seat, moment, limits, recorded);
+    let outcome = answer_within(rt, &call.stream, seat, crew.cover, moment, limits, recorded);
     server_log::note_connection(
         rt,
         log,
@@ -135,10 +145,11 @@ where
 
 // Answers one connection within its limits. If the clock can't give its deadline, nothing is read,
 // and the client counts as unreadable.
-fn answer_within<'x, H, C>(
+fn answer_within<'x, H, C, K>(
     rt: &'x H,
     stream: &'x TcpStream,
     seat: &mut WorkerSeat<'_, C>,
+    cover: &K,
     moment: i64,
     limits: Option<Limits>,
     recorded: &mut ConnectionRecord,
@@ -147,9 +158,10 @@ where
     H: AllocGlobal + Clock,
     C: CellSteps,
     C::Pass: Drop,
+    K: Cover<C>,
     requires { C.belongs seat.old.cells.now seat.old.pass }
     ensures cells { seat.new.cells ≡ seat.old.cells }
-    ensures back { MomentBack (C.belongs seat.old.cells.now) C.grew moment
+    ensures back { MomentBack (K.withholds cover.now) (C.belongs seat.old.cells.now) C.grew moment
         (seat.old.pass, seat.old.watcher) (seat.new.pass, seat.new.watcher) }
 {
     let Some(limits) = limits else {
@@ -168,7 +180,7 @@ where
     };
     let outcome = answer_in(
         &turn,
-        &Uncovered,
+        cover,
         &mut seat.buffers,
         &mut reader,
         &mut writer,

@@ -19,7 +19,8 @@ pub loop-worker-init : goal.loop-worker-init
 loop-worker-init c =
     let put = c.push_reserved.ensures in
     let first : c.push_reserved.new.self.items ≡ [] ++ c.args.back.operator ∷ [] =
-    put.items ∙ ap (λ (ps : List PassView). ps ++ c.args.back.operator ∷ []) c.requires.empty in
+    put.items ∙ ap (λ (ps : List PassView). ps ++ c.into_pass.result ∷ []) c.requires.empty
+    ∙ ap (λ (p : PassView). [] ++ p ∷ []) c.into_pass.ensures in
     let one : length c.push_reserved.new.self.items ≡ 1 =
     ap (λ (ps : List PassView). length ps) first in
     let none : vec_len c.args.room ≡ 0 =

@@ -26,9 +26,10 @@ loop-worker-preserved g c =
 pub returns : goal.returns
 returns g c =
     let P = g.row.C-Pass.Denot in
-    let K = PromisedHandle (P × KnownPrefix) (WorkerPromise g.row.C.Denot P) in
+    let K = PromisedHandle (P × KnownPrefix) (WorkerPromise g.row.C.Denot g.row.K.Denot P) in
     let i = c.loop-worker.invariant in
     let gives = c.into_iter-worker-iterator.ensures.into_iter_gives in
     subst (λ (ws : List (P × KnownPrefix)). AllZip (λ (w : P × KnownPrefix) (thread : K).
-    IsPromiseOf c.args.cells.now w thread.promise) ws c.loop-worker.threads.items) gives.0
+    IsPromiseOf c.args.cells.now c.args.crew.now.cover.now w thread.promise) ws
+    c.loop-worker.threads.items) gives.0
     (all_have _ _ _ _ _ i.started (sym i.left ∙ c.in-None.ensures.steps.0))

@@ -8,8 +8,8 @@ use Rattle.workers.proofs.Lines.{returned_by}
 use Rattle.workers.proofs.Served.{all_back}
 use Rattle.workers.proofs.running.fn.run_and_print.scope.Goals as goal
 
-pub joined-requires : goal.joined-requires
-joined-requires g c =
+pub joined-staff-requires : goal.joined-staff-requires
+joined-staff-requires g c =
     let many : length c.in-Ok-start_workers.threads.items ≡ length c.captures.workers.items =
     AllZip-long _ c.captures.workers.items c.in-Ok-start_workers.threads.items
     c.in-Ok-start_workers.ensures in
@@ -24,9 +24,12 @@ joined-requires g c =
 pub returns : goal.returns
 returns g c =
     let P = g.row.C-Pass.Denot in
+    let K = g.row.K.Denot in
+    let withholds = g.K.Cover.withholds in
     let belongs = g.C.CellSteps.belongs in
     let grew = g.C.CellSteps.grew in
     let cells = c.captures.parts.now.cells.now in
+    let cover = c.captures.crew.cover.now in
     let old = c.captures.workers.items in
     let back = c.returned-back.ensures in
     record {
@@ -34,10 +37,12 @@ returns g c =
         last = c.operate_then_end-ended.new.control;
         operator = returned_by _ grew (belongs cells) _ _ _ _ _ _ back.operator back.end
             c.operate_then_end-ended.ensures;
-        workers = subst (WorkersBack (belongs cells) grew old)
+        workers = subst (λ (y : K). WorkersBack (withholds y) (belongs cells) grew old
+            c.returned-back.result.workers.items) c.requires.cover
+            (subst (WorkersBack (withholds cover) (belongs cells) grew old)
             (sym (ap (λ (v : Vec (P × KnownPrefix) Global). v.items) back.workers))
-            (all_back belongs grew cells old c.in-Ok-start_workers.threads.items
-            c.joined.result.items c.in-Ok-start_workers.ensures c.joined.ensures);
+            (all_back withholds belongs grew cells cover old c.in-Ok-start_workers.threads.items
+            c.joined-staff.result.items c.in-Ok-start_workers.ensures c.joined-staff.ensures));
         directory = back.directory;
         arrays_are = back.arrays;
         halted_are = back.halted;
