@@ -1,15 +1,13 @@
 -- Manifests that are checked, in order.
-use Rattle.std.proofs.Common.{◌≡◌, ◌∙◌, ap, sym, ℕ, ◌+◌, ◌<◌, List, [], ◌∷◌, ◌++◌, length}
-use Rattle.std.proofs.Common.{Bool, true, false, add-one, append-nil, get_or, refl, take}
+use Rattle.std.proofs.Common.{◌≡◌, ◌∙◌, sym, ℕ, ◌+◌, ◌<◌, List, [], ◌∷◌, ◌++◌, length}
+use Rattle.std.proofs.Common.{Bool, ◌&&◌, false, add-one, get_or, refl, take}
 use Rattle.std.proofs.Math.Seq.{take-suc}
 use Rattle.std.proofs.lemmas.Bool.{and_right}
 use Rattle.std.specs.Borrow.{Bor}
-use Rattle.std.specs.String.{string_bytes}
 use Rattle.bounded_files.specs.Files.{KnownFiles}
-use Rattle.manifest_tools.specs.Checks.{AddsAccepted, AddsChecked, AddsRefused, AreCheckedEach}
-use Rattle.manifest_tools.specs.Checks.{IsCheckedAlone, refusal_text, titled, titled_if_any}
+use Rattle.manifest_tools.specs.Checks.{AddsChecked, AreCheckedEach, IsCheckedAlone}
 use Rattle.manifest_tools.specs.Checks.IsCheckedAmong.{accepted, refused}
-use Rattle.manifest_tools.specs.Checks.AreCheckedEach.{none, next}
+use Rattle.manifest_tools.specs.Checks.AreCheckedEach.{next}
 use Rattle.manifest_tools.specs.declared.checks.CheckOutput.{CheckOutput}
 use Rattle.manifest_tools.specs.Manifests.{IsCheckRefusal}
 use Rattle.manifest_tools.specs.declared.manifest_tool_fault.ManifestToolFault.{ManifestToolFault}
@@ -18,30 +16,18 @@ use Rattle.manifest_tools.specs.declared.manifest_tool_fault.ManifestToolFault.{
 
 pub accepted_more : (known : KnownFiles) (strict : Bool) (allowed : List (Bor (List ℕ)))
     (path : List ℕ) (one old new : CheckOutput) → IsCheckedAlone known strict allowed path one
-    → AddsAccepted path one old new → AddsChecked known strict allowed path old new
-accepted_more known strict allowed path one old new checked added = record {
-  text = titled path (string_bytes one.text);
-  stderr = titled_if_any path (string_bytes one.stderr);
-  one = one.passes;
-  checked = accepted one checked;
-  text_is = added.text_is;
-  stderr_is = added.stderr_is;
-  passes_is = added.passes_is;
-}
+    → new.passes ≡ (old.passes && one.passes) → AddsChecked known strict allowed path old new
+accepted_more known strict allowed path one old new checked passes_is =
+    record { one = one.passes; checked = accepted one checked; passes_is = passes_is }
 
 pub refused_more : (known : KnownFiles) (strict : Bool) (allowed : List (Bor (List ℕ)))
     (path : List ℕ) (fault : ManifestToolFault) (old new : CheckOutput)
-    → IsCheckRefusal known path fault → AddsRefused path fault old new
+    → IsCheckRefusal known path fault → new.passes ≡ false
     → AddsChecked known strict allowed path old new
-refused_more known strict allowed path fault old new checked added = record {
-  text = [];
-  stderr = titled path (refusal_text fault);
+refused_more known strict allowed path fault old new checked fails = record {
   one = false;
   checked = refused fault checked;
-  text_is =
-      ap (λ t. string_bytes t) added.text_is ∙ sym (append-nil (string_bytes old.text));
-  stderr_is = added.stderr_is;
-  passes_is = added.passes_is ∙ sym (and_right old.passes false refl);
+  passes_is = fails ∙ sym (and_right old.passes false refl);
 }
 
 -- ---- in order
@@ -50,13 +36,7 @@ refused_more known strict allowed path fault old new checked added = record {
 abbrev pub AreCheckedSoFar : KnownFiles → (strict : Bool) → (allowed paths : List (Bor (List ℕ)))
     → (n : ℕ) → CheckOutput → Type 0
 AreCheckedSoFar known strict allowed paths n output =
-    AreCheckedEach known strict allowed (take n paths) (string_bytes output.text)
-    (string_bytes output.stderr) output.passes
-
-pub none_checked : (known : KnownFiles) (strict : Bool) (allowed paths : List (Bor (List ℕ)))
-    (text stderr : List ℕ) → text ≡ [] → stderr ≡ []
-    → AreCheckedEach known strict allowed (take 0 paths) text stderr true
-none_checked known strict allowed paths text stderr no_text nothing = rw (no_text, nothing) none
+    AreCheckedEach known strict allowed (take n paths) output.passes
 
 pub one_more_checked : (known : KnownFiles) (strict : Bool) (allowed paths : List (Bor (List ℕ)))
     (n : ℕ) (d : Bor (List ℕ)) (old new : CheckOutput)
@@ -66,6 +46,5 @@ pub one_more_checked : (known : KnownFiles) (strict : Bool) (allowed paths : Lis
 one_more_checked known strict allowed paths n d old new so_far within added =
     let paths_are : take (n + 1) paths ≡ take n paths ++ get_or paths n d ∷ [] =
     rw add-one (take-suc paths n d within) in
-    rw (paths_are, added.text_is, added.stderr_is, added.passes_is)
-    (next (take n paths) (get_or paths n d) (string_bytes old.text) (string_bytes old.stderr)
-    added.text added.stderr old.passes added.one so_far added.checked)
+    rw (paths_are, added.passes_is)
+    (next (take n paths) (get_or paths n d) old.passes added.one so_far added.checked)

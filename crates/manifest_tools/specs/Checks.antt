@@ -7,11 +7,10 @@ use Rattle.bounded_files.specs.Files.{KnownFiles}
 use Rattle.bounded_files.specs.declared.resource_fault.ResourceFault.TheVariants as resource
 use Rattle.diagnosis.specs.declared.accepted.CheckedManifest.{CheckedManifest}
 use Rattle.hex.specs.Hex.{encode_lower}
-use Rattle.manifest_tools.specs.Manifests.{IsChecked, IsCheckRefusal, fault_text}
+use Rattle.manifest_tools.specs.Manifests.{IsChecked, IsCheckRefusal}
 use Rattle.manifest_tools.specs.declared.checks.CheckOutput.{CheckOutput}
 use Rattle.manifest_tools.specs.declared.manifest_tool_fault.ManifestToolFault.{ManifestToolFault}
 use Rattle.manifest_tools.specs.declared.manifest_tool_fault.ManifestToolFault.TheVariants as fault
-use Rattle.printing.specs.Printed.{printed}
 use Rattle.ruleset.specs.Texts.{line}
 use Rattle.warnings.specs.Names.{some_counts}
 use Rattle.warnings.specs.Warnings.{warnings_text}
@@ -40,41 +39,6 @@ pub record FormatsChecked (strict : Bool) (allowed : List (Bor (List ℕ))) (one
   pub stderr_is : string_bytes output.stderr ≡ warnings_text one.warnings.items
   pub passes_is : output.passes ≡ passes strict allowed one.warnings.items
 
--- the report on a refused manifest: the line of its refusal, followed by where and why
-abbrev pub further_reason : ManifestToolFault → List ℕ
-further_reason (fault.Diagnosed refused) = string_bytes refused.reason
-further_reason refused = []
-
-abbrev pub refusal_text : ManifestToolFault → List ℕ
-refusal_text refused = line (codes "refused " ++ fault_text refused) ++ further_reason refused
-
--- ---- several manifests: lines under the name of their manifest
-
-abbrev pub title : (path : List ℕ) → List ℕ
-title path = line (codes "manifest " ++ printed path)
-
-abbrev pub titled : (path lines : List ℕ) → List ℕ
-titled path lines = title path ++ lines
-
-abbrev pub titled_if_any : (path lines : List ℕ) → List ℕ
-titled_if_any path [] = []
-titled_if_any path (c ∷ cs) = titled path (c ∷ cs)
-
--- adds an accepted manifest: its lines, and those of its warnings
-pub record AddsAccepted (path : List ℕ) (one old new : CheckOutput) : Type 0 where
-  pub text_is : string_bytes new.text ≡ string_bytes old.text ++ titled path (string_bytes one.text)
-  pub stderr_is : string_bytes new.stderr
-      ≡ string_bytes old.stderr ++ titled_if_any path (string_bytes one.stderr)
-  pub passes_is : new.passes ≡ (old.passes && one.passes)
-
--- adds a refused manifest: why it is refused
-pub record AddsRefused (path : List ℕ) (why : ManifestToolFault) (old new : CheckOutput) : Type 0
-  where
-    pub text_is : new.text ≡ old.text
-    pub stderr_is : string_bytes new.stderr
-        ≡ string_bytes old.stderr ++ titled path (refusal_text why)
-    pub passes_is : new.passes ≡ false
-
 -- ---- which manifests are reported
 
 module _ (known : KnownFiles) (strict : Bool) (allowed : List (Bor (List ℕ))) where
@@ -84,38 +48,29 @@ module _ (known : KnownFiles) (strict : Bool) (allowed : List (Bor (List ℕ))) 
     pub checked : IsChecked known path one
     pub formats : FormatsChecked strict allowed one output
 
-  -- one of several: its lines, those in `stderr`, and whether it passes
-  pub data IsCheckedAmong (path : List ℕ) : (text stderr : List ℕ) → (passes : Bool) → Type 0
-    where
-      accepted : (output : CheckOutput) → IsCheckedAlone path output
-          → IsCheckedAmong path (titled path (string_bytes output.text))
-          (titled_if_any path (string_bytes output.stderr)) output.passes
-      refused : (why : ManifestToolFault) → IsCheckRefusal known path why
-          → IsCheckedAmong path [] (titled path (refusal_text why)) false
+  -- one of several, and whether it passes. No clause says how the lines of several look
+  pub data IsCheckedAmong (path : List ℕ) : (passes : Bool) → Type 0 where
+    accepted : (output : CheckOutput) → IsCheckedAlone path output
+        → IsCheckedAmong path output.passes
+    refused : (why : ManifestToolFault) → IsCheckRefusal known path why
+        → IsCheckedAmong path false
 
   -- adds one more manifest; all have to pass
   pub record AddsChecked (path : List ℕ) (old new : CheckOutput) : Type 0 where
-    pub text : List ℕ
-    pub stderr : List ℕ
     pub one : Bool
-    pub checked : IsCheckedAmong path text stderr one
-    pub text_is : string_bytes new.text ≡ string_bytes old.text ++ text
-    pub stderr_is : string_bytes new.stderr ≡ string_bytes old.stderr ++ stderr
+    pub checked : IsCheckedAmong path one
     pub passes_is : new.passes ≡ (old.passes && one)
 
   -- several manifests, in order
-  pub data AreCheckedEach : List (Bor (List ℕ)) → (text stderr : List ℕ) → (passes : Bool)
-      → Type 0 where
-    none : AreCheckedEach [] [] [] true
-    next : (paths : List (Bor (List ℕ))) (path : Bor (List ℕ))
-        (texts errors_before text stderr : List ℕ) (all one : Bool)
-        → AreCheckedEach paths texts errors_before all → IsCheckedAmong path.now text stderr one
-        → AreCheckedEach (paths ++ path ∷ []) (texts ++ text) (errors_before ++ stderr) (all && one)
+  pub data AreCheckedEach : List (Bor (List ℕ)) → (passes : Bool) → Type 0 where
+    none : AreCheckedEach [] true
+    next : (paths : List (Bor (List ℕ))) (path : Bor (List ℕ)) (all one : Bool)
+        → AreCheckedEach paths all → IsCheckedAmong path.now one
+        → AreCheckedEach (paths ++ path ∷ []) (all && one)
 
   abbrev pub AreChecked : List (Bor (List ℕ)) → CheckOutput → Type 0
   AreChecked (path ∷ []) output = IsCheckedAlone path.now output
-  AreChecked paths output =
-      AreCheckedEach paths (string_bytes output.text) (string_bytes output.stderr) output.passes
+  AreChecked paths output = AreCheckedEach paths output.passes
 
 -- a single manifest is refused; for several, each is reported, unless memory runs out
 abbrev pub AreCheckRefusal : KnownFiles → List (Bor (List ℕ)) → ManifestToolFault → Type 0

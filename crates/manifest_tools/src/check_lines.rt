@@ -1,7 +1,7 @@
 //! The lines that `check` adds to those of `diagnosis`: a manifest's path, `ok`, its digest, and
-//! its refusal.
+//! its refusal. No clause says the words of the first and the last; rows compare them.
 
-ghost use Rattle.std.specs.Prelude.{◌≡◌, OnOk};
+ghost use Rattle.std.specs.Prelude.{OnOk};
 ghost use Rattle.printing.specs.Pushed.{Puts};
 ghost use Rattle.manifest_tools.specs.Checks as specs;
 
@@ -35,45 +35,25 @@ pub fn push_digest(text: &mut String, digest: [u8; 32]) -> Result<(), AllocError
     writeln!(text, "digest {digest}")
 }
 
-/// Adds the line `manifest PATH`.
-pub(crate) fn push_title(text: &mut String, path: &str) -> Result<(), AllocError>
-    ensures { OnOk result (Puts text.old text.new (specs.title path.now)) }
-{
-    let path = Printed(path);
-    writeln!(text, "manifest {path}")
-}
-
-/// Adds these lines under that one.
-pub(crate) fn push_titled(text: &mut String, path: &str, lines: &str) -> Result<(), AllocError>
-    ensures { OnOk result (Puts text.old text.new (specs.titled path.now lines.now)) }
-{
-    push_title(text, path)?;
-    text.push_str(lines)
-}
-
-/// The same, if there are lines.
-pub(crate) fn push_if_any(text: &mut String, path: &str, lines: &str) -> Result<(), AllocError>
-    ensures { OnOk result (Puts text.old text.new (specs.titled_if_any path.now lines.now)) }
-{
+/// Adds lines under the line `manifest PATH`, if there are any.
+pub(crate) fn push_titled(text: &mut String, path: &str, lines: &str) -> Result<(), AllocError> {
     if lines.is_empty() {
         return Ok(());
     }
-    push_titled(text, path, lines)
+    let path = Printed(path);
+    write!(text, "manifest {path}\n{lines}")
 }
 
-/// Adds the line of a refusal, followed by where and why.
-pub(crate) fn push_refusal(text: &mut String, fault: &ManifestToolFault) -> Result<(), AllocError>
-    ensures { OnOk result (Puts text.old text.new (specs.refusal_text fault.now)) }
-{
-    writeln!(text, "refused {fault}")?;
-    text.push_str(further_reason(fault))
-}
-
-fn further_reason(fault: &ManifestToolFault) -> &str
-    ensures { result.now ≡ specs.further_reason fault.now }
-{
+/// Adds the line of a refusal under that line, followed by where and why.
+pub(crate) fn push_refusal(
+    text: &mut String,
+    path: &str,
+    fault: &ManifestToolFault,
+) -> Result<(), AllocError> {
+    let path = Printed(path);
+    writeln!(text, "manifest {path}\nrefused {fault}")?;
     match fault {
-        ManifestToolFault::Diagnosed(refused) => refused.reason.as_str(),
-        _ => "",
+        ManifestToolFault::Diagnosed(refused) => text.push_str(refused.reason.as_str()),
+        _ => Ok(()),
     }
 }

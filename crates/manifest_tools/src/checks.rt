@@ -1,15 +1,13 @@
 //! `check` of one manifest, or of several: what is printed, and whether they pass.
 
-ghost use Rattle.std.specs.Prelude.{◌≡◌, IfOk, IfErr, string_bytes};
+ghost use Rattle.std.specs.Prelude.{◌≡◌, IfOk, IfErr};
 ghost use Rattle.manifest_tools.specs.CheckObjects.{IsCheckOutput, RefusesChecks};
 ghost use Rattle.manifest_tools.specs.Checks as specs;
 ghost use Rattle.manifest_tools.specs.Manifests.{IsCheckRefusal};
 
 use crate::check::check_file;
 use crate::check_json::check_as_json;
-use crate::check_lines::{
-    push_digest, push_if_any, push_ok, push_refusal, push_title, push_titled,
-};
+use crate::check_lines::{push_digest, push_ok, push_refusal, push_titled};
 use crate::manifest_tool_fault::ManifestToolFault;
 use bounded_files::{Disk, ResourceFault};
 use diagnosis::CheckedManifest;
@@ -147,7 +145,7 @@ fn check_each<D: Disk>(
     allowed: &[&str],
 ) -> Result<CheckOutput, AllocError>
     ensures { IfOk result (λ output. specs.AreCheckedEach (D.known disk.now) strict allowed.now
-        paths.now (string_bytes output.text) (string_bytes output.stderr) output.passes) }
+        paths.now output.passes) }
 {
     let mut output = CheckOutput {
         text: String::new(alloc),
@@ -168,50 +166,26 @@ fn add_checked<D: Disk>(
     path: &str,
     strict: bool,
     allowed: &[&str],
-    output: CheckOutput,
+    mut output: CheckOutput,
 ) -> Result<CheckOutput, AllocError>
     ensures { IfOk result
         (specs.AddsChecked (D.known disk.now) strict allowed.now path.now output) }
 {
     match check_alone(alloc, disk, path, strict, allowed) {
         Ok(one) => {
-            let longer = add_accepted(path, &one, output)?;
-            Ok(longer)
+            push_titled(&mut output.text, path, one.text.as_str())?;
+            push_titled(&mut output.stderr, path, one.stderr.as_str())?;
+            output.passes = output.passes && one.passes;
+            Ok(output)
         }
         Err(fault) => {
-            let longer = add_refused(path, &fault, output);
+            let pushed = push_refusal(&mut output.stderr, path, &fault);
             // Dropped by one call: left to the `?`, each of its many parts would be dropped by its
             // own call.
             drop(fault);
-            Ok(longer?)
+            pushed?;
+            output.passes = false;
+            Ok(output)
         }
     }
-}
-
-// Adds the report on an accepted manifest.
-fn add_accepted(
-    path: &str,
-    one: &CheckOutput,
-    mut output: CheckOutput,
-) -> Result<CheckOutput, AllocError>
-    ensures { IfOk result (specs.AddsAccepted path.now one.now output) }
-{
-    push_titled(&mut output.text, path, one.text.as_str())?;
-    push_if_any(&mut output.stderr, path, one.stderr.as_str())?;
-    output.passes = output.passes && one.passes;
-    Ok(output)
-}
-
-// Adds why a manifest is refused.
-fn add_refused(
-    path: &str,
-    fault: &ManifestToolFault,
-    mut output: CheckOutput,
-) -> Result<CheckOutput, AllocError>
-    ensures { IfOk result (specs.AddsRefused path.now fault.now output) }
-{
-    push_title(&mut output.stderr, path)?;
-    push_refusal(&mut output.stderr, fault)?;
-    output.passes = false;
-    Ok(output)
 }

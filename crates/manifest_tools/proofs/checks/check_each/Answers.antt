@@ -1,9 +1,9 @@
-use Rattle.manifest_tools.proofs.Checked.{none_checked, one_more_checked}
+use Rattle.manifest_tools.specs.Checks.AreCheckedEach.{none}
+use Rattle.manifest_tools.proofs.Checked.{one_more_checked}
 use Rattle.manifest_tools.proofs.checks.check_each.Goals as goal
 
 pub loop-path-init : goal.loop-path-init
-loop-path-init g c = none_checked _ c.args.strict c.args.allowed.now c.args.paths.now _ _
-    c.new.ensures.bytes c.new-2.ensures.bytes
+loop-path-init g c = none
 
 pub loop-path-preserved : goal.loop-path-preserved
 loop-path-preserved g c = one_more_checked _ c.args.strict c.args.allowed.now c.args.paths.now
