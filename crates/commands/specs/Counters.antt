@@ -1,11 +1,12 @@
 -- The counters with which a server opens, and which it leaves.
-use Rattle.std.specs.Prelude.{◌⊎◌, ℕ, List, [], Bool, Option, Some, None}
+use Rattle.std.specs.Prelude.{◌≡◌, ◌⊎◌, ℕ, List, [], Bool, true, Option, Some, None, Ok, map}
+use Rattle.std.specs.Prelude.{string_bytes}
 use Rattle.bounded_files.specs.Files.{KnownFiles}
 use Rattle.cells.specs.declared.array.CellArray.{CellArray}
-use Rattle.cells.specs.Events.{AreCells}
+use Rattle.cells.specs.Events.{AreCells, AreZeros}
 use Rattle.command_words.specs.declared.request.Command.{Command}
 use Rattle.command_words.specs.declared.request.Command.TheVariants as command
-use Rattle.counters_file.specs.Text.{Contents}
+use Rattle.counters_file.specs.Text.{Contents, contents_in}
 use Rattle.load.specs.Loaded.{IsLoadedFrom}
 use Rattle.load.specs.Made.{IsMadeFrom}
 use Rattle.serving.specs.Manifests.{RefusesToServe}
@@ -25,8 +26,15 @@ OpensWith command None = Unit {0}
 abbrev pub contents_with : (was_stopped : Bool) → Counters → Contents
 contents_with was_stopped c = record {
   was_stopped = was_stopped;
+  halted = map string_bytes c.halted.items;
   counters = record { arrays = c.directory; values = c.values.items };
 }
+
+-- a server opens with what the file of a stopped server says, or without a file with no halted
+-- app, no arrays and zeros
+abbrev pub OpensFrom : Option (List ℕ) → Counters → Type 0
+OpensFrom (Some text) c = contents_in text ≡ Ok (contents_with true c)
+OpensFrom None c = (c.halted.items ≡ []) × (c.directory ≡ []) × AreZeros 8192 c.values.items
 
 -- the arrays of counters, or none
 abbrev pub declared_by : Option (List CellArray) → List CellArray
@@ -38,6 +46,7 @@ module _ (known : KnownFiles) (manifest : List ℕ) (arrays : Option (List CellA
   pub record IsReady (server : Server) : Type 0 where
     pub loaded :
         IsLoadedFrom known manifest (declared_by arrays) server.loaded.rules server.loaded.directory
+    pub path : string_bytes server.path ≡ manifest
     pub made : IsMadeFrom known manifest (declared_by arrays) server.loaded
 
   -- why there is no such server

@@ -1,28 +1,56 @@
-//! The file of a server's counters: what the server opens with, and what it leaves.
+//! The file of a server's counters and halted apps: what the server opens with, and what it leaves.
 
-ghost use Rattle.std.specs.Prelude.{◌≡◌, IfOk, IfSome, OnOk, true, false};
+ghost use Rattle.std.specs.Prelude.{◌≡◌, IfOk, IfSome, None, OnOk, true};
 ghost use Rattle.cells.specs.Events.{AreCells};
-ghost use Rattle.counters_file.specs.Kept.{IsOpenedFrom, Keeps};
-ghost use Rattle.commands.specs.Counters.{OpensWith, contents_with};
+ghost use Rattle.counters_file.specs.Kept.{Keeps};
+ghost use Rattle.commands.specs.Counters.{OpensFrom, OpensWith, contents_with};
 
 use bounded_files::ResourceFault;
 use command_words::Command;
-use counters_file::{CountersFault, DeviceFile, KeptFile, commit, file_text, read_counters};
+use counters_file::{
+    Contents, CountersFault, DeviceFile, KeptFile, Parts, commit, file_text, read_counters,
+    read_of_another,
+};
 use hot_swap::SwapFault;
 use serving::{Counters, Server, ServingFault};
 use std::alloc::Global;
 use std::fs::File;
 use std::rt::Files;
 
-/// What a server opens with, and the file of its counters, which no other server has. Both are None
-/// if the command names no file.
+/// How a file of counters was found.
+#[derive(Clone, Copy)]
+pub enum Found {
+    /// It isn't there yet.
+    New,
+    /// Its server was stopped.
+    Stopped,
+}
+
+/// A file of counters that no other server has.
+#[derive(Drop)]
+pub struct OwnFile<'a, R> {
+    pub file: DeviceFile<'a, R>,
+    pub found: Found,
+}
+
+/// What a server opens with, and the file of its counters. The counters are None if the command
+/// names no file. The file is None then, and also if the server has to wait for it: the counters
+/// are those with which another server opened.
 #[derive(Drop)]
 pub struct Opening<'a, R> {
-    pub file: Option<DeviceFile<'a, R>>,
+    pub file: Option<OwnFile<'a, R>>,
     pub counters: Option<Counters>,
 }
 
-/// Opens the file that a command names for a server's counters. Returns K1 to K5 or B4.
+/// A file of counters, and what it says.
+#[derive(Drop)]
+pub struct Opened<'a, R> {
+    pub file: OwnFile<'a, R>,
+    pub counters: Counters,
+}
+
+/// Opens the file that a command names for a server's counters. If another server has the file, and
+/// the command waits for it, the file is only read. Returns K1 to K5 or B4.
 // open: the bytes of a device's file.
 pub fn open_counters<'a, R>(
     rt: &'a R,
@@ -34,6 +62,7 @@ where
 {
     let Command::Serve {
         counters: Some(path),
+        plan,
         ..
     } = command
     else {
@@ -42,24 +71,91 @@ where
             counters: None,
         });
     };
-    let file = DeviceFile::lock(rt, path)?;
-    match counters_in(rt.alloc(), &file) {
-        Ok(counters) => Ok(Opening {
-            file: Some(file),
-            counters: Some(counters),
+    match DeviceFile::lock(rt, path) {
+        Ok(file) => {
+            let Opened { file, counters } = read_own(rt.alloc(), file)?;
+            Ok(Opening {
+                file: Some(file),
+                counters: Some(counters),
+            })
+        }
+        Err(CountersFault::InUse) if plan.wait.is_some() => Ok(Opening {
+            file: None,
+            counters: Some(counters_of_another(rt, path)?),
         }),
         Err(fault) => Err(fault),
     }
 }
 
-// The counters of a file.
-fn counters_in<F: KeptFile>(alloc: Global, file: &F) -> Result<Counters, CountersFault>
-    ensures found { IfOk result (λ c. IfSome (F.known file.now)
-        (λ held. IsOpenedFrom held (contents_with true c))) }
+/// Reads a file that no other server has. Returns K2, K3, K5 or B4.
+pub fn read_own<'a, R>(
+    alloc: Global,
+    file: DeviceFile<'a, R>,
+) -> Result<Opened<'a, R>, CountersFault>
+where
+    R: Files<File = File> + AllocGlobal,
+    ensures { IfOk result (λ o. AreCells o.counters.values.items) }
+{
+    match counters_in(alloc, &file) {
+        Ok((counters, found)) => Ok(Opened {
+            file: OwnFile { file, found },
+            counters,
+        }),
+        Err(fault) => Err(fault),
+    }
+}
+
+// The counters of a file whose server was stopped, and how it was found: `new` if it isn't there.
+// Returns K5 if its server wasn't stopped.
+fn counters_in<F: KeptFile>(alloc: Global, file: &F) -> Result<(Counters, Found), CountersFault>
+    ensures found { IfOk result (λ c. IfSome (F.known file.now) (λ held. OpensFrom held c.0)) }
+    ensures cells { IfOk result (λ c. AreCells c.0.values.items) }
+{
+    match read_counters(alloc, file)? {
+        Some(contents) if !contents.was_stopped => {
+            drop(contents);
+            Err(CountersFault::Crashed)
+        }
+        Some(contents) => Ok((counters_of(contents), Found::Stopped)),
+        None => Ok((no_counters(alloc)?, Found::New)),
+    }
+}
+
+// The counters with which another server opened, which has the file at a path.
+fn counters_of_another<R>(rt: &R, path: &str) -> Result<Counters, CountersFault>
+where
+    R: Files<File = File> + AllocGlobal,
+    ensures { IfOk result (λ c. AreCells c.values.items) }
+{
+    match read_of_another(rt, path)? {
+        Some(contents) => Ok(counters_of(contents)),
+        None => no_counters(rt.alloc()),
+    }
+}
+
+fn counters_of(contents: Contents) -> Counters
+    ensures { contents_with contents.was_stopped result ≡ contents }
+{
+    let Parts {
+        halted,
+        directory,
+        values,
+    } = contents.into_parts();
+    Counters {
+        halted,
+        directory,
+        values,
+    }
+}
+
+fn no_counters(alloc: Global) -> Result<Counters, CountersFault>
+    ensures none { IfOk result (λ c. OpensFrom None c) }
     ensures cells { IfOk result (λ c. AreCells c.values.items) }
 {
-    let (directory, values) = read_counters(alloc, file)?.into_parts();
-    Ok(Counters { directory, values })
+    match Counters::none(alloc) {
+        Ok(counters) => Ok(counters),
+        Err(_) => Err(CountersFault::Memory),
+    }
 }
 
 /// The file of the counters of a server that serves, and the text that it gets if the server serves
@@ -75,10 +171,11 @@ impl<F: KeptFile + Drop> Keeping<F> {
     /// Returns K4 if it can't be written, and B4 if an allocation fails.
     pub fn begin(alloc: Global, mut file: F, server: &Server) -> Result<Keeping<F>, CountersFault> {
         let directory = &server.loaded().directory;
-        let Ok(unserved) = file_text(alloc, true, directory, server.values()) else {
+        let halted = server.halted();
+        let Ok(unserved) = file_text(alloc, true, halted, directory, server.values()) else {
             return Err(CountersFault::Memory);
         };
-        match commit(alloc, &mut file, false, directory, server.values()) {
+        match commit(alloc, &mut file, false, halted, directory, server.values()) {
             Ok(()) => Ok(Keeping { file, unserved }),
             Err(fault) => Err(fault),
         }
@@ -94,6 +191,7 @@ impl<F: KeptFile + Drop> Keeping<F> {
             alloc,
             &mut self.file,
             true,
+            &counters.halted,
             &counters.directory,
             &counters.values,
         )

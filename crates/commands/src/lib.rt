@@ -20,7 +20,9 @@ mod removed_apps;
 mod replays;
 mod requests;
 mod serve;
+mod starting;
 mod status;
+mod waiting;
 
 pub use load::{Device, Disk};
 pub use server_log::LogOutput;

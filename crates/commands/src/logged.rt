@@ -7,6 +7,7 @@ ghost use Rattle.serving.specs.Staffed.{IsStaffFault, IsEndFault};
 ghost use Rattle.workers.specs.Texts.{serving_line};
 
 use crate::command_fault::Fault;
+use crate::kept_counters::Found;
 use crate::serve::serve_by;
 use command_words::{Command, Plan};
 use load::Disk;
@@ -20,7 +21,8 @@ use std::sync::Wait;
 use std::thread::Threads;
 use std::time::Clock;
 
-/// Serves by the plan, and logs to standard error. Returns B4 if the log's memory or its thread
+/// Serves by the plan, and logs to standard error, also how the file of the counters was found, if
+/// there is one. Returns B4 if the log's memory or its thread
 /// fails.
 // open: that the lines of the start are of this manifest, server and outcome: tests.
 pub fn serve_logged<R, D, O>(
@@ -29,6 +31,7 @@ pub fn serve_logged<R, D, O>(
     server: Server,
     manifest: &str,
     plan: &Plan,
+    found: Option<Found>,
     out: &mut O,
 ) -> Result<Counters, ServingFault>
 where
@@ -48,17 +51,38 @@ where
             return Err(ServingFault::Resource(fault));
         }
     };
-    let starting = Starting {
-        manifest,
-        port: ports.service().port(),
-        operator: ports.operator().port(),
-    };
+    let (port, operator) = (ports.service().port(), ports.operator().port());
+    let starting = starting_at(port, operator, manifest, found);
     note_start(rt, &queue, starting, server.loaded());
     let outcome = serve_by(rt, disk, server, plan, Some(&queue), out);
     note_outcome(rt, &queue, starting, &outcome);
     drop(queue);
     end.wait(rt);
     outcome
+}
+
+// A server that starts at these ports, and how the file of its counters was found.
+fn starting_at<'x>(
+    port: u16,
+    operator: u16,
+    manifest: &'x str,
+    found: Option<Found>,
+) -> Starting<'x> {
+    let counters: Option<&'x str> = word_of(found);
+    Starting {
+        manifest,
+        port,
+        operator,
+        counters,
+    }
+}
+
+fn word_of<'x>(found: Option<Found>) -> Option<&'x str> {
+    match found {
+        Some(Found::New) => Some("new"),
+        Some(Found::Stopped) => Some("stopped"),
+        None => None,
+    }
 }
 
 // Logs why the server didn't start, if it didn't. If it has served, its end is already logged.
@@ -90,11 +114,7 @@ where
         return;
     };
     if plan.log {
-        let starting = Starting {
-            manifest,
-            port: plan.port,
-            operator: plan.operator,
-        };
+        let starting = starting_at(plan.port, plan.operator, manifest, None);
         write_refused_start(rt, starting, fault, fault.cause());
     }
 }

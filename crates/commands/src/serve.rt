@@ -6,6 +6,7 @@ ghost use Rattle.std.specs.Prelude.{◌≡◌, ◌*◌, ◌⊎◌, OnOk, IfErr};
 ghost use Rattle.serving.specs.Staffed.{IsStaffFault, IsEndFault};
 ghost use Rattle.workers.specs.Texts.{serving_line};
 
+use crate::kept_counters::Found;
 use crate::logged::serve_logged;
 use command_words::Plan;
 use load::Disk;
@@ -19,7 +20,7 @@ use std::time::{Clock, Duration};
 use workers::ServeOptions;
 
 /// Makes all that a server needs, and serves by the plan until the operator stops it, with its log
-/// or without one. Returns the counters that it leaves. Once all is made, `out` gets the ready line
+/// or without one. `found` is how the file of its counters was found, if it has one. Returns the counters that it leaves. Once all is made, `out` gets the ready line
 /// of generation 1. Returns S1, H1 or B4 if out of memory before that; B4 if an allocation or a
 /// thread fails; B3 if `out` can't be written; and H2 if a watcher can't be read after the server's
 /// end.
@@ -30,6 +31,7 @@ pub fn serve_until_stopped<R, D, O>(
     server: Server,
     manifest: &str,
     plan: &Plan,
+    found: Option<Found>,
     out: &mut O,
 ) -> Result<Counters, ServingFault>
 where
@@ -45,7 +47,7 @@ where
     // gets it after the log's last line.
     let _open = server.ports().operator_handle();
     if plan.log {
-        serve_logged(rt, disk, server, manifest, plan, out)
+        serve_logged(rt, disk, server, manifest, plan, found, out)
     } else {
         serve_by(rt, disk, server, plan, None, out)
     }

@@ -1,26 +1,22 @@
 //! From the words of a command line to the status, with what is printed on the way.
 
 ghost use Rattle.std.specs.Prelude.{◌≡◌, ◌≤◌, map};
-ghost use Rattle.std.specs.Io.KnownBytes.{Appends};
 ghost use Rattle.command_line.specs.Printed.{IsGiven};
 ghost use Rattle.commands.specs.Commands.{AreWrong, IsAnswered, IsDone};
 ghost use Rattle.commands.specs.Counters.{OpensWith};
-ghost use Rattle.workers.specs.Texts.{serving_line};
 
 use crate::command_fault::Fault;
 use crate::halt_note::print_halt_note;
-use crate::kept_counters::{Keeping, Opening, open_counters};
+use crate::kept_counters::{Opening, open_counters};
 use crate::output::CommandOutput;
-use crate::refusing::{refuse, refuse_unlogged};
+use crate::refusing::refuse;
 use crate::removed_apps::{apps_shown, print_removed_apps};
 use crate::requests::output_of;
-use crate::serve::serve_until_stopped;
-use command_line::{is_verbose, print_output, refused, usage};
-use command_words::{Command, Plan, read_words};
-use counters_file::DeviceFile;
+use crate::starting::start;
+use command_line::{is_verbose, print_output, usage};
+use command_words::{Command, read_words};
 use load::Disk;
 use server_log::LogOutput;
-use serving::{Server, ServingFault};
 use std::convert::AsStr;
 use std::fs::File;
 use std::io::Write;
@@ -167,141 +163,5 @@ where
             status
         }
         Err(fault) => refuse(rt, disk, command, fault, verbose, err),
-    }
-}
-
-// Serves, with a file of counters or without one.
-fn start<R, D, O, E>(
-    rt: &R,
-    disk: &D,
-    server: Server,
-    command: &Command<'_>,
-    plan: &Plan,
-    file: Option<DeviceFile<'_, R>>,
-    verbose: bool,
-    out: &mut O,
-    err: &mut E,
-) -> u8
-where
-    R: Files<File = File> + Threads + Wait + AllocGlobal + Clock + LogOutput,
-    R: Copy + Drop + Send + Sync + 'static,
-    R: Net<Listener = TcpListener, Stream = TcpStream>,
-    R::File: Send,
-    R::Dir: Send,
-    D: Disk + Sync,
-    O: Write,
-    E: Write,
-    ensures within { result ≤ 1 }
-    ensures done { result ≡ 0 → Appends (O.contents out.old) (O.contents out.new) (serving_line 1) }
-    ensures silent { result ≡ 0 → err.new ≡ err.old }
-{
-    match file {
-        Some(file) => serve_keeping(rt, disk, server, command, plan, file, verbose, out, err),
-        None => serve(rt, disk, server, manifest_of(command), plan, out, err),
-    }
-}
-
-// The manifest that is to be served, for the log.
-fn manifest_of<'a>(command: &Command<'a>) -> &'a str {
-    match command {
-        Command::Serve { manifest, .. } => manifest,
-        _ => "",
-    }
-}
-
-// Serves until the operator stops the server. Prints a line once it serves.
-fn serve<R, D, O, E>(
-    rt: &R,
-    disk: &D,
-    server: Server,
-    manifest: &str,
-    plan: &Plan,
-    out: &mut O,
-    err: &mut E,
-) -> u8
-where
-    R: Files + Threads + Wait + AllocGlobal + Clock + LogOutput,
-    R: Copy + Drop + Send + Sync + 'static,
-    R: Net<Listener = TcpListener, Stream = TcpStream>,
-    R::File: Send,
-    R::Dir: Send,
-    D: Disk + Sync,
-    O: Write,
-    E: Write,
-    ensures within { result ≤ 1 }
-    ensures done { result ≡ 0 → Appends (O.contents out.old) (O.contents out.new) (serving_line 1) }
-    ensures silent { result ≡ 0 → err.new ≡ err.old }
-{
-    match serve_until_stopped(rt, disk, server, manifest, plan, out) {
-        Ok(counters) => {
-            drop(counters);
-            0
-        }
-        Err(fault) => refuse_serving(err, fault),
-    }
-}
-
-// Prints why a server can't serve, and returns the status.
-fn refuse_serving<E: Write>(err: &mut E, fault: ServingFault) -> u8
-    ensures { result ≡ 1 }
-{
-    let fault = Fault::Serving(fault);
-    let status = refused(err, &fault);
-    drop(fault);
-    status
-}
-
-// Serves until the operator stops the server, whose file of counters then has those that it leaves.
-// Prints a line once it serves.
-fn serve_keeping<R, D, O, E>(
-    rt: &R,
-    disk: &D,
-    server: Server,
-    command: &Command<'_>,
-    plan: &Plan,
-    file: DeviceFile<'_, R>,
-    verbose: bool,
-    out: &mut O,
-    err: &mut E,
-) -> u8
-where
-    R: Files<File = File> + Threads + Wait + AllocGlobal + Clock + LogOutput,
-    R: Copy + Drop + Send + Sync + 'static,
-    R: Net<Listener = TcpListener, Stream = TcpStream>,
-    R::File: Send,
-    R::Dir: Send,
-    D: Disk + Sync,
-    O: Write,
-    E: Write,
-    ensures within { result ≤ 1 }
-    ensures done { result ≡ 0 → Appends (O.contents out.old) (O.contents out.new) (serving_line 1) }
-    ensures silent { result ≡ 0 → err.new ≡ err.old }
-{
-    // The port stays open until the file is written, and another server may have it. So a client
-    // that waits for the server's end may start the next one.
-    let _open = server.ports().operator_handle();
-    let mut keeping = match Keeping::begin(rt.alloc(), file, &server) {
-        Ok(keeping) => keeping,
-        Err(fault) => {
-            drop(server);
-            return refuse(rt, disk, command, Fault::Counters(fault), verbose, err);
-        }
-    };
-    match serve_until_stopped(rt, disk, server, manifest_of(command), plan, out) {
-        Ok(counters) => {
-            let kept = keeping.end(rt.alloc(), &counters);
-            drop(counters);
-            match kept {
-                Ok(()) => 0,
-                Err(fault) => {
-                    let fault = Fault::Counters(fault);
-                    refuse_unlogged(rt, disk, command, fault, verbose, err)
-                }
-            }
-        }
-        Err(fault) => {
-            keeping.undo(&fault);
-            refuse_serving(err, fault)
-        }
     }
 }

@@ -1,0 +1,12 @@
+use Rattle.commands.proofs.Found.{same_contents}
+use Rattle.commands.proofs.kept_counters.counters_of.Goals as goal
+
+pub returns : goal.returns
+returns c =
+    let parts = c.into_parts-halted.result in
+    let are = c.into_parts-halted.ensures in
+    same_contents c.args.contents (record {
+      halted = parts.halted;
+      directory = parts.directory;
+      values = parts.values;
+    }) are.halted are.arrays are.values

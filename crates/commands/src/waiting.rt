@@ -1,0 +1,115 @@
+//! A server that waits for the file of its counters, which another server has: so that it can take
+//! over, with all that the other one counted.
+
+ghost use Rattle.std.specs.Prelude.{IfOk};
+ghost use Rattle.commands.specs.Outputs.{IsOutput};
+
+use crate::command_fault::Fault;
+use crate::kept_counters::{Opened, OwnFile, read_own};
+use crate::output::CommandOutput;
+use command_words::{Command, Plan};
+use counters_file::{CountersFault, DeviceFile, owner_of};
+use load::Disk;
+use serving::Server;
+use std::fs::File;
+use std::rt::Files;
+use std::thread;
+use std::time::{Clock, Duration};
+
+/// How often a second the server tries to get the file.
+const TRIES: u32 = 20;
+
+/// The time between two tries.
+const TRY_MILLIS: u64 = 50;
+
+/// Whether a server without the file of its counters has to wait for it.
+pub fn waits_for_file(command: &Command<'_>) -> bool {
+    matches!(
+        command,
+        Command::Serve {
+            counters: Some(_),
+            ..
+        }
+    )
+}
+
+/// A server that has the file of its counters.
+pub struct InTurn<'a, R> {
+    pub file: OwnFile<'a, R>,
+    pub server: Server,
+}
+
+/// Waits until no other server has the file of the counters, and loads the server's manifest anew
+/// over what the file says then. Returns K1 if the file isn't free within the plan's seconds.
+// open: that the other server has the file, and how long this one waits: `bench/handover`.
+pub fn in_turn<'a, R, D>(
+    rt: &'a R,
+    disk: &D,
+    command: &Command<'_>,
+    plan: &Plan,
+    server: Server,
+) -> Result<InTurn<'a, R>, Fault>
+where
+    R: Files<File = File> + AllocGlobal + Clock + Eprint,
+    D: Disk,
+    requires ready { IsOutput (D.known disk.now) command.now (CommandOutput.Ready server plan.now) }
+    ensures { IfOk result (λ turn.
+        IsOutput (D.known disk.now) command.now (CommandOutput.Ready turn.server plan.now)) }
+{
+    let Command::Serve {
+        counters: Some(path),
+        ..
+    } = command
+    else {
+        drop(server);
+        return Err(Fault::Counters(CountersFault::InUse));
+    };
+    let file = match file_within(rt, path, plan.wait.unwrap_or(0)) {
+        Ok(file) => file,
+        Err(fault) => {
+            drop(server);
+            return Err(Fault::Counters(fault));
+        }
+    };
+    let Opened { file, counters } = match read_own(rt.alloc(), file) {
+        Ok(opened) => opened,
+        Err(fault) => {
+            drop(server);
+            return Err(Fault::Counters(fault));
+        }
+    };
+    match server.opened_with(rt, disk, counters) {
+        Ok(server) => Ok(InTurn { file, server }),
+        Err(fault) => Err(Fault::Serving(fault)),
+    }
+}
+
+// The file at a path, once no other server has it, if that is within these seconds.
+fn file_within<'a, R>(
+    rt: &'a R,
+    path: &str,
+    seconds: u16,
+) -> Result<DeviceFile<'a, R>, CountersFault>
+where
+    R: Files<File = File> + AllocGlobal + Clock + Eprint,
+{
+    print_waiting(rt, path);
+    for _ in 0..u32::from(seconds) * TRIES {
+        match DeviceFile::lock(rt, path) {
+            Err(CountersFault::InUse) => thread::sleep(rt, Duration::from_millis(TRY_MILLIS)),
+            outcome => return outcome,
+        }
+    }
+    DeviceFile::lock(rt, path)
+}
+
+// Prints which process has the file. The runtime itself writes the line to standard error.
+fn print_waiting<R>(rt: &R, path: &str)
+where
+    R: Files<File = File> + AllocGlobal + Eprint,
+{
+    let _printed = match owner_of(rt, path) {
+        Some(process) => eprintln!(rt; "waiting for counters: process {process} has them"),
+        None => eprintln!(rt; "waiting for counters: another process has them"),
+    };
+}
