@@ -1,5 +1,5 @@
 -- The counters with which a server opens, and which it leaves.
-use Rattle.std.specs.Prelude.{◌≡◌, ◌⊎◌, ℕ, List, [], Bool, true, Option, Some, None, Ok, map}
+use Rattle.std.specs.Prelude.{◌≡◌, ◌⊎◌, ℕ, List, [], Bool, Option, Some, None, Ok, map}
 use Rattle.std.specs.Prelude.{string_bytes}
 use Rattle.bounded_files.specs.Files.{KnownFiles}
 use Rattle.cells.specs.declared.array.CellArray.{CellArray}
@@ -30,10 +30,11 @@ contents_with was_stopped c = record {
   counters = record { arrays = c.directory; values = c.values.items };
 }
 
--- a server opens with what the file of a stopped server says, or without a file with no halted
--- app, no arrays and zeros
+-- a server opens with what the file says, whether its server was stopped or not; or without a file
+-- with no halted app, no arrays and zeros
 abbrev pub OpensFrom : Option (List ℕ) → Counters → Type 0
-OpensFrom (Some text) c = contents_in text ≡ Ok (contents_with true c)
+OpensFrom (Some text) c =
+    (was_stopped : Bool) × (contents_in text ≡ Ok (contents_with was_stopped c))
 OpensFrom None c = (c.halted.items ≡ []) × (c.directory ≡ []) × AreZeros 8192 c.values.items
 
 -- the arrays of counters, or none

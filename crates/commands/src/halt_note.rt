@@ -16,7 +16,7 @@ pub fn print_halt_note<R: Eprint>(rt: &R, command: &Command<'_>) {
         let appid = Printed(appid);
         let kept = "rollout stage halt";
         let _printed = eprintln!(rt;
-            "until the server restarts, or crashes if it has --counters: {kept} {appid} keeps it"
+            "until the server restarts, unless it has --counters: {kept} {appid} keeps it"
         );
     }
 }

@@ -5,15 +5,13 @@ ghost use Rattle.cells.specs.Events.{AreCells};
 ghost use Rattle.counters_file.specs.Kept.{Keeps};
 ghost use Rattle.commands.specs.Counters.{OpensFrom, OpensWith, contents_with};
 
-use bounded_files::ResourceFault;
 use command_words::Command;
+use counter_store::CounterStore;
 use counters_file::{
-    Contents, CountersFault, DeviceFile, KeptFile, Parts, commit, file_text, read_counters,
-    read_of_another,
+    Contents, CountersFault, DeviceFile, KeptFile, Parts, commit, read_counters, read_of_another,
 };
-use hot_swap::SwapFault;
-use serving::{Counters, Server, ServingFault};
-use std::alloc::Global;
+use serving::{Counters, Server};
+use std::alloc::{AllocError, Global};
 use std::fs::File;
 use std::rt::Files;
 
@@ -24,6 +22,8 @@ pub enum Found {
     New,
     /// Its server was stopped.
     Stopped,
+    /// Its server wasn't.
+    Crashed,
 }
 
 /// A file of counters that no other server has.
@@ -50,7 +50,7 @@ pub struct Opened<'a, R> {
 }
 
 /// Opens the file that a command names for a server's counters. If another server has the file, and
-/// the command waits for it, the file is only read. Returns K1 to K5 or B4.
+/// the command waits for it, the file is only read. Returns K1 to K4 or B4.
 // open: the bytes of a device's file.
 pub fn open_counters<'a, R>(
     rt: &'a R,
@@ -87,7 +87,7 @@ where
     }
 }
 
-/// Reads a file that no other server has. Returns K2, K3, K5 or B4.
+/// Reads a file that no other server has. Returns K2, K3 or B4.
 pub fn read_own<'a, R>(
     alloc: Global,
     file: DeviceFile<'a, R>,
@@ -105,19 +105,25 @@ where
     }
 }
 
-// The counters of a file whose server was stopped, and how it was found: `new` if it isn't there.
-// Returns K5 if its server wasn't stopped.
+// The counters of a file, and how it was found.
 fn counters_in<F: KeptFile>(alloc: Global, file: &F) -> Result<(Counters, Found), CountersFault>
     ensures found { IfOk result (λ c. IfSome (F.known file.now) (λ held. OpensFrom held c.0)) }
     ensures cells { IfOk result (λ c. AreCells c.0.values.items) }
 {
     match read_counters(alloc, file)? {
-        Some(contents) if !contents.was_stopped => {
-            drop(contents);
-            Err(CountersFault::Crashed)
+        Some(contents) => {
+            let found = found_by(contents.was_stopped);
+            Ok((counters_of(contents), found))
         }
-        Some(contents) => Ok((counters_of(contents), Found::Stopped)),
         None => Ok((no_counters(alloc)?, Found::New)),
+    }
+}
+
+fn found_by(was_stopped: bool) -> Found {
+    if was_stopped {
+        Found::Stopped
+    } else {
+        Found::Crashed
     }
 }
 
@@ -158,58 +164,67 @@ fn no_counters(alloc: Global) -> Result<Counters, CountersFault>
     }
 }
 
-/// The file of the counters of a server that serves, and the text that it gets if the server serves
-/// nobody.
-#[derive(Drop)]
-pub struct Keeping<F> {
-    file: F,
-    unserved: String,
-}
-
-impl<F: KeptFile + Drop> Keeping<F> {
-    /// Writes what a server opens with to its file, which says from then on that it is served.
-    /// Returns K4 if it can't be written, and B4 if an allocation fails.
-    pub fn begin(alloc: Global, mut file: F, server: &Server) -> Result<Keeping<F>, CountersFault> {
-        let directory = &server.loaded().directory;
-        let halted = server.halted();
-        let Ok(unserved) = file_text(alloc, true, halted, directory, server.values()) else {
-            return Err(CountersFault::Memory);
-        };
-        match commit(alloc, &mut file, false, halted, directory, server.values()) {
-            Ok(()) => Ok(Keeping { file, unserved }),
-            Err(fault) => Err(fault),
-        }
-    }
-
-    /// Writes what a server leaves that was stopped. Returns K4 if it can't be written, and B4 if
-    /// an allocation fails.
-    pub fn end(&mut self, alloc: Global, counters: &Counters) -> Result<(), CountersFault>
-        ensures { AreCells counters.now.values.items → OnOk result (IfSome (F.known self.old.file)
-            (λ _. IfSome (F.known self.new.file) (Keeps (contents_with true counters.now)))) }
-    {
-        commit(
-            alloc,
-            &mut self.file,
-            true,
-            &counters.halted,
-            &counters.directory,
-            &counters.values,
-        )
-    }
-
-    /// Writes what the server opened with, if by its fault it has served nobody.
-    pub fn undo(&mut self, fault: &ServingFault) {
-        if !has_served(fault) {
-            let _undone = self.file.replace(self.unserved.as_bytes());
-        }
+/// The store of the counters of a server that is ready. What the server opens with is written to
+/// the file, which says from then on that it is served. Returns K4 if it can't be written, and B4
+/// if an allocation fails.
+// open: when these are returned.
+pub fn store_of<F: KeptFile + Drop>(
+    alloc: Global,
+    mut file: F,
+    server: &Server,
+) -> Result<CounterStore<F>, CountersFault>
+    ensures numbers { IfOk result (λ s. s.ledger.numbers ≡ server.now.values.items) }
+    ensures arrays { IfOk result (λ s. s.ledger.arrays ≡ server.now.loaded.directory) }
+{
+    let directory = &server.loaded().directory;
+    commit(
+        alloc,
+        &mut file,
+        false,
+        server.halted(),
+        directory,
+        server.values(),
+    )?;
+    let Ok(halted) = copies(alloc, server.halted()) else {
+        return Err(CountersFault::Memory);
+    };
+    let Ok(arrays) = directory.copy(alloc) else {
+        return Err(CountersFault::Memory);
+    };
+    let Ok(values) = server.values().to_vec(alloc) else {
+        return Err(CountersFault::Memory);
+    };
+    match CounterStore::new(alloc, file, halted, arrays, values) {
+        Ok(store) => Ok(store),
+        Err(_) => Err(CountersFault::Memory),
     }
 }
 
-// Whether the fault is of a server that may have served: its ready line can't be written, or a
-// watcher can't be read after its end.
-fn has_served(fault: &ServingFault) -> bool {
-    matches!(
-        fault,
-        ServingFault::Resource(ResourceFault::File) | ServingFault::Publisher(SwapFault::NoPlace)
+fn copies(alloc: Global, appids: &[String]) -> Result<Vec<String>, AllocError> {
+    let mut copies = Vec::new(alloc);
+    for appid in appids {
+        let copy = String::from_str(alloc, appid.as_str())?;
+        copies.push(copy)?;
+    }
+    Ok(copies)
+}
+
+/// Writes what a server leaves that was stopped. Returns K4 if it can't be written, and B4 if an
+/// allocation fails.
+pub fn write_last<F: KeptFile>(
+    alloc: Global,
+    file: &mut F,
+    counters: &Counters,
+) -> Result<(), CountersFault>
+    ensures { AreCells counters.now.values.items → OnOk result (IfSome (F.known file.old)
+        (λ _. IfSome (F.known file.new) (Keeps (contents_with true counters.now)))) }
+{
+    commit(
+        alloc,
+        file,
+        true,
+        &counters.halted,
+        &counters.directory,
+        &counters.values,
     )
 }

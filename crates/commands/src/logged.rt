@@ -2,7 +2,7 @@
 //! a while to write the remaining lines. A refused start also has a line.
 
 ghost use Rattle.std.specs.Io.KnownBytes.{Appends};
-ghost use Rattle.std.specs.Prelude.{◌⊎◌, OnOk, IfErr};
+ghost use Rattle.std.specs.Prelude.{◌≡◌, ◌⊎◌, OnOk, IfErr, IfSome};
 ghost use Rattle.serving.specs.Staffed.{IsStaffFault, IsEndFault};
 ghost use Rattle.workers.specs.Texts.{serving_line};
 
@@ -10,6 +10,8 @@ use crate::command_fault::Fault;
 use crate::kept_counters::Found;
 use crate::serve::serve_by;
 use command_words::{Command, Plan};
+use counter_store::CounterStore;
+use counters_file::KeptFile;
 use load::Disk;
 use server_log::{
     LogOutput, LogQueue, Starting, note_refused_start, note_start, start_log, write_refused_start,
@@ -22,23 +24,26 @@ use std::thread::Threads;
 use std::time::Clock;
 
 /// Serves by the plan, and logs to standard error, also how the file of the counters was found, if
-/// there is one. Returns B4 if the log's memory or its thread
-/// fails.
+/// there is one. Returns B4 if the log's memory or its thread fails.
 // open: that the lines of the start are of this manifest, server and outcome: tests.
-pub fn serve_logged<R, D, O>(
+pub fn serve_logged<R, D, F, O>(
     rt: &R,
     disk: &D,
     server: Server,
     manifest: &str,
     plan: &Plan,
     found: Option<Found>,
+    store: Option<CounterStore<F>>,
     out: &mut O,
-) -> Result<Counters, ServingFault>
+) -> Result<(Counters, Option<F>), ServingFault>
 where
     R: Threads + Wait + AllocGlobal + Clock + LogOutput + Copy + Drop + Send + Sync + 'static,
     R: Net<Listener = TcpListener, Stream = TcpStream>,
     D: Disk + Sync,
+    F: KeptFile + Send + Drop,
     O: Write,
+    requires numbers { IfSome store (λ s. s.ledger.numbers ≡ server.values.items) }
+    requires arrays { IfSome store (λ s. s.ledger.arrays ≡ server.loaded.directory) }
     ensures printed { OnOk result
         (Appends (O.contents out.old) (O.contents out.new) (serving_line 1)) }
     ensures fault { IfErr result (λ e. IsStaffFault e ⊎ IsEndFault e) }
@@ -54,7 +59,7 @@ where
     let (port, operator) = (ports.service().port(), ports.operator().port());
     let starting = starting_at(port, operator, manifest, found);
     note_start(rt, &queue, starting, server.loaded());
-    let outcome = serve_by(rt, disk, server, plan, Some(&queue), out);
+    let outcome = serve_by(rt, disk, server, plan, Some(&queue), store, out);
     note_outcome(rt, &queue, starting, &outcome);
     drop(queue);
     end.wait(rt);
@@ -81,16 +86,17 @@ fn word_of<'x>(found: Option<Found>) -> Option<&'x str> {
     match found {
         Some(Found::New) => Some("new"),
         Some(Found::Stopped) => Some("stopped"),
+        Some(Found::Crashed) => Some("crashed"),
         None => None,
     }
 }
 
 // Logs why the server didn't start, if it didn't. If it has served, its end is already logged.
-fn note_outcome<R>(
+fn note_outcome<R, F>(
     rt: &R,
     queue: &LogQueue,
     starting: Starting<'_>,
-    outcome: &Result<Counters, ServingFault>,
+    outcome: &Result<(Counters, Option<F>), ServingFault>,
 )
 where
     R: Wait + AllocGlobal + Clock,

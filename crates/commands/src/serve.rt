@@ -2,13 +2,15 @@
 
 ghost use Rattle.std.specs.Duration.{as_nanos};
 ghost use Rattle.std.specs.Io.KnownBytes.{Appends};
-ghost use Rattle.std.specs.Prelude.{◌≡◌, ◌*◌, ◌⊎◌, OnOk, IfErr};
+ghost use Rattle.std.specs.Prelude.{◌≡◌, ◌*◌, ◌⊎◌, OnOk, IfErr, IfSome};
 ghost use Rattle.serving.specs.Staffed.{IsStaffFault, IsEndFault};
 ghost use Rattle.workers.specs.Texts.{serving_line};
 
 use crate::kept_counters::Found;
 use crate::logged::serve_logged;
 use command_words::Plan;
+use counter_store::CounterStore;
+use counters_file::KeptFile;
 use load::Disk;
 use server_log::{LogOutput, LogQueue};
 use serving::{Counters, Manifests, Server, ServingFault};
@@ -20,25 +22,29 @@ use std::time::{Clock, Duration};
 use workers::ServeOptions;
 
 /// Makes all that a server needs, and serves by the plan until the operator stops it, with its log
-/// or without one. `found` is how the file of its counters was found, if it has one. Returns the counters that it leaves. Once all is made, `out` gets the ready line
-/// of generation 1. Returns S1, H1 or B4 if out of memory before that; B4 if an allocation or a
-/// thread fails; B3 if `out` can't be written; and H2 if a watcher can't be read after the server's
-/// end.
+/// or without one. `found` is how the file of its counters was found, if it has one. Returns the
+/// counters that it leaves. Once all is made, `out` gets the ready line of generation 1. Returns S1,
+/// H1 or B4 if out of memory before that; B4 if an allocation or a thread fails; B3 if `out` can't
+/// be written; and H2 if a watcher can't be read after the server's end.
 // open: what a connection sends, and that a server answers: tests.
-pub fn serve_until_stopped<R, D, O>(
+pub fn serve_until_stopped<R, D, F, O>(
     rt: &R,
     disk: &D,
     server: Server,
     manifest: &str,
     plan: &Plan,
     found: Option<Found>,
+    store: Option<CounterStore<F>>,
     out: &mut O,
-) -> Result<Counters, ServingFault>
+) -> Result<(Counters, Option<F>), ServingFault>
 where
     R: Threads + Wait + AllocGlobal + Clock + LogOutput + Copy + Drop + Send + Sync + 'static,
     R: Net<Listener = TcpListener, Stream = TcpStream>,
     D: Disk + Sync,
+    F: KeptFile + Send + Drop,
     O: Write,
+    requires numbers { IfSome store (λ s. s.ledger.numbers ≡ server.values.items) }
+    requires arrays { IfSome store (λ s. s.ledger.arrays ≡ server.loaded.directory) }
     ensures printed { OnOk result
         (Appends (O.contents out.old) (O.contents out.new) (serving_line 1)) }
     ensures fault { IfErr result (λ e. IsStaffFault e ⊎ IsEndFault e) }
@@ -47,26 +53,30 @@ where
     // gets it after the log's last line.
     let _open = server.ports().operator_handle();
     if plan.log {
-        serve_logged(rt, disk, server, manifest, plan, found, out)
+        serve_logged(rt, disk, server, manifest, plan, found, store, out)
     } else {
-        serve_by(rt, disk, server, plan, None, out)
+        serve_by(rt, disk, server, plan, None, store, out)
     }
 }
 
 /// Serves by the plan, with a queue for the lines of the log, if there is one.
-pub fn serve_by<R, D, O>(
+pub fn serve_by<R, D, F, O>(
     rt: &R,
     disk: &D,
     server: Server,
     plan: &Plan,
     log: Option<&LogQueue>,
+    store: Option<CounterStore<F>>,
     out: &mut O,
-) -> Result<Counters, ServingFault>
+) -> Result<(Counters, Option<F>), ServingFault>
 where
     R: Threads + Wait + AllocGlobal + Clock + Sync,
     R: Net<Listener = TcpListener, Stream = TcpStream>,
     D: Disk + Sync,
+    F: KeptFile + Send + Drop,
     O: Write,
+    requires numbers { IfSome store (λ s. s.ledger.numbers ≡ server.values.items) }
+    requires arrays { IfSome store (λ s. s.ledger.arrays ≡ server.loaded.directory) }
     ensures printed { OnOk result
         (Appends (O.contents out.old) (O.contents out.new) (serving_line 1)) }
     ensures fault { IfErr result (λ e. IsStaffFault e ⊎ IsEndFault e) }
@@ -75,8 +85,8 @@ where
         Ok(server) => server,
         Err(fault) => return Err(fault),
     };
-    match server.serve(rt, &Manifests::of(disk), service_of(plan, log), out) {
-        Ok(counters) => Ok(counters),
+    match server.serve(rt, &Manifests::of(disk), store, service_of(plan, log), out) {
+        Ok(left) => Ok(left),
         Err(fault) => Err(fault),
     }
 }

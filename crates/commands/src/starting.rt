@@ -8,16 +8,19 @@ ghost use Rattle.commands.specs.Outputs.{IsOutput};
 ghost use Rattle.workers.specs.Texts.{serving_line};
 
 use crate::command_fault::Fault;
-use crate::kept_counters::{Keeping, OwnFile};
+use crate::kept_counters::{OwnFile, store_of, write_last};
 use crate::output::CommandOutput;
 use crate::refusing::{refuse, refuse_unlogged};
 use crate::serve::serve_until_stopped;
 use crate::waiting::{InTurn, in_turn, waits_for_file};
 use command_line::refused;
 use command_words::{Command, Plan};
+use counter_store::CounterStore;
+use counters_file::{CountersFault, KeptFile, MemoryFile};
 use load::Disk;
 use server_log::{LogOutput, write_counters};
-use serving::{Server, ServingFault};
+use serving::{Counters, Server, ServingFault};
+use std::alloc::Global;
 use std::fs::File;
 use std::io::Write;
 use std::net::{Net, TcpListener, TcpStream};
@@ -126,8 +129,9 @@ where
     ensures done { result ≡ 0 → Appends (O.contents out.old) (O.contents out.new) (serving_line 1) }
     ensures silent { result ≡ 0 → err.new ≡ err.old }
 {
-    match serve_until_stopped(rt, disk, server, manifest, plan, None, out) {
-        Ok(counters) => {
+    let none: Option<CounterStore<MemoryFile>> = None;
+    match serve_until_stopped(rt, disk, server, manifest, plan, None, none, out) {
+        Ok((counters, _file)) => {
             drop(counters);
             0
         }
@@ -176,24 +180,26 @@ where
     let _open = server.ports().operator_handle();
     let port = server.ports().service().port();
     let OwnFile { file, found } = own;
-    let mut keeping = match Keeping::begin(rt.alloc(), file, &server) {
-        Ok(keeping) => keeping,
+    let store = match store_of(rt.alloc(), file, &server) {
+        Ok(store) => store,
         Err(fault) => {
             drop(server);
             return refuse(rt, disk, command, Fault::Counters(fault), verbose, err);
         }
     };
+    let manifest = manifest_of(command);
     match serve_until_stopped(
         rt,
         disk,
         server,
-        manifest_of(command),
+        manifest,
         plan,
         Some(found),
+        Some(store),
         out,
     ) {
-        Ok(counters) => {
-            let kept = keeping.end(rt.alloc(), &counters);
+        Ok((counters, file)) => {
+            let kept = write_left(rt.alloc(), file, &counters);
             drop(counters);
             match kept {
                 Ok(()) => 0,
@@ -205,9 +211,18 @@ where
                 }
             }
         }
-        Err(fault) => {
-            keeping.undo(&fault);
-            refuse_serving(err, fault)
-        }
+        Err(fault) => refuse_serving(err, fault),
+    }
+}
+
+// Writes what a server left to its file, which it has given back.
+fn write_left<F: KeptFile + Drop>(
+    alloc: Global,
+    file: Option<F>,
+    counters: &Counters,
+) -> Result<(), CountersFault> {
+    match file {
+        Some(mut file) => write_last(alloc, &mut file, counters),
+        None => Err(CountersFault::Store),
     }
 }
