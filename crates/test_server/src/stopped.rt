@@ -51,11 +51,14 @@ fn is_ended_by_line<T: Abort + Wait>(own: &Impaired<'_, T>, listener: &TcpListen
     let (cells, mut pass) = PlainCells::new(alloc).expect(own.handles, "cells");
     let mut control = control_of(own);
     let disk = Device::new(own.rt);
+    let loader = Manifests::of(&disk);
+    let cover = Uncovered;
+    let bell = NoCounters;
     let parts = ServerParts {
-        loader: &Manifests::of(&disk),
+        loader: &loader,
         cells: &cells,
-        cover: &Uncovered,
-        bell: &NoCounters,
+        cover: &cover,
+        bell: &bell,
         service: service_of(30),
     };
     let stop = AtomicBool::new(true);
