@@ -27,8 +27,9 @@ pub struct DeviceFile<'a, R> {
 
 impl<'a, R: Files<File = File> + AllocGlobal> DeviceFile<'a, R> {
     /// The file at a path, if no other process has locked it: the system's lock is on `PATH.lock`,
-    /// which is made if it isn't there, and which stays. It gets the number of this process. Returns K1 if another process has it, K4
-    /// if it can't be made or locked, and B4 if an allocation fails.
+    /// which is made if it isn't there, and which stays. It gets the number of this process.
+    /// Returns K1 if another process has it, K4 if it can't be made or locked, and B4 if an
+    /// allocation fails.
     // open: that the system's lock holds: rows and `bench/outside`.
     pub fn lock(rt: &'a R, path: &str) -> Result<DeviceFile<'a, R>, CountersFault> {
         let Ok(own) = String::from_str(rt.alloc(), path) else {
