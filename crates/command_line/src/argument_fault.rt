@@ -33,6 +33,8 @@ pub enum ArgumentFault {
     Trace,
     /// The words after `stage` aren't an action.
     Stage,
+    By,
+    Because,
     Shell,
     Missing,
 }
@@ -81,8 +83,12 @@ const BUCKET: &str = "'--bucket' can't be given with a cohort that names a bucke
 
 const TRACE: &str = "'--trace' is a command of its own now: rollout trace IN ..";
 
-const STAGE: &str = "'stage' wants halt APPID, raise APPID BUCKETS (0 to 10000), back, \
-    put MANIFEST or status";
+const STAGE: &str = "'stage' wants halt APPID, resume APPID [SHARE], raise APPID SHARE, back, \
+    put MANIFEST, status or history [APPID]; a SHARE is 0 to 10000 buckets, or 0% to 100%";
+
+const BY: &str = "'--by' wants a name of at most 1024 bytes";
+
+const BECAUSE: &str = "'--because' wants a text of at most 1024 bytes";
 
 const SHELL: &str = "'completion' wants bash, zsh, fish or man";
 
@@ -111,6 +117,8 @@ impl ArgumentFault {
             ArgumentFault::Bucket => BUCKET,
             ArgumentFault::Trace => TRACE,
             ArgumentFault::Stage => STAGE,
+            ArgumentFault::By => BY,
+            ArgumentFault::Because => BECAUSE,
             ArgumentFault::Shell => SHELL,
             ArgumentFault::Missing => MISSING,
         }

@@ -22,6 +22,7 @@ Manifests and rules:
   diff        Show what changes from one manifest to another, and for which machines
   ask         Print the reply that a server of a manifest would send to a request
   report      Count the requests, offers, installs and refusals in a server's log
+  why         Explain the last requests of a machine in a server's log
   replay      Play a script of runs and changes of manifest, without a server
   compile     Compile a rule into an accepted program's bytes
 
