@@ -5,6 +5,7 @@ mod Gaining
 mod Gathered
 mod Histories
 mod Loads
+mod Looks
 mod Places
 mod Shuffles
 mod Steps

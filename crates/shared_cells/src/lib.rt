@@ -46,6 +46,7 @@
 
 mod closing;
 mod laws;
+mod looking;
 mod opening;
 mod pass;
 mod rule;

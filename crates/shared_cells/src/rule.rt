@@ -65,6 +65,13 @@ impl<J: NamedAccess> Play<(), View> for OneEvent<J> {
     ghost then = { λ s old found new. Gains J.cell J.op old found new };
 }
 
+/// A look at a word. It makes no event, and what its seat knows stays as it is.
+pub struct Look;
+
+impl Play<(), View> for Look {
+    ghost then = { λ _ _ _ _. Unit {0} };
+}
+
 /// The first account goes to a new seat.
 pub struct CutFirst;
 
