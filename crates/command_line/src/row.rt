@@ -10,6 +10,7 @@ use clap::ArgMatches;
 
 /// A command `verb` of a program: its name, what it does in one line, its arguments, and the text
 /// that `--help` prints after these.
+#[derive(Clone, Copy)]
 pub struct CommandRow<V> {
     pub verb: V,
     pub name: &'static str,
