@@ -17,6 +17,7 @@ from hosts import Host, Skipped, awaited, called, child_of, needs, needs_root
 AS_ANOTHER = ["setpriv", "--reuid=65534", "--regid=65534", "--clear-groups"]
 PROGRAM, AT = "/opt/rollout/bin/rollout", ["--operator", "8081"]
 POST = "http://127.0.0.1:8080/service/update2/json"
+NEXT, COUNTERS = POST.replace("8080", "8090"), "/var/lib/rollout/counters"
 CONFINED = ["CapBnd:\t0000000000000000", "NoNewPrivs:\t1", "Seccomp:\t2"]
 FIRST = "/usr/lib/systemd/systemd"
 # $1 is an empty folder, and $2 has a replacement for each host folder that is to differ.
@@ -162,6 +163,8 @@ def wrong_places(it):
         found = it.call(*load, f"{folder}/manifest.toml", *AT)
         if found[0] != 1 or not found[1].startswith("refused B3 File\n"):
             return f"from {place}: {found}"
+    if it.call(*AS_ANOTHER, "touch", "/var/lib/rollout/of_another")[0] == 0:
+        return "another user may write into the folder of the counters"
     if (found := it.call(*load, "/etc/rollout/manifest.toml", *AT)) != (0, "generation 2\n"):
         return f"from /etc/rollout: {found}"
     if (found := it.call("systemctl", "reload", "rollout"))[0] != 0:
@@ -169,10 +172,14 @@ def wrong_places(it):
 
 
 def wrong_ends(it):
-    """A second server on the same ports, a crash, a signal, two stops."""
+    """A second server on the same ports, a crash, a signal, two stops; a halt and a counter outlive
+    them."""
     if it.call("systemctl", "start", "rollout@8")[0] == 0 or not it.is_asked():
         return "a second server of the same ports is started, or ends the first"
     it.call("systemctl", "stop", "rollout@8")
+    it.call(PROGRAM, "halt", "agent", *AT)
+    if not awaited(lambda: "\nhalted agent\n" in it.call("cat", COUNTERS)[1], 5):
+        return f"the file of counters has no halt: {it.call('cat', COUNTERS)}"
     it.call("kill", "-s", "KILL", it.told("MainPID"))
     again = ("running", "1")
     if not awaited(lambda: (it.told("SubState"), it.told("NRestarts")) == again and it.is_asked()):
@@ -183,9 +190,32 @@ def wrong_ends(it):
     for words in ([PROGRAM, "stop", *AT, "--wait"], ["systemctl", "stop", "rollout"]):
         if wrong := it.started():
             return wrong
+        if "\nhalted agent\n" not in it.call(PROGRAM, "state", *AT)[1]:
+            return "a halt is undone by a start"
+        cells = it.call(PROGRAM, "cells", *AT)[1]
         found = it.call(*words)[0], it.told("Result")
         if found != (0, "success") or not awaited(lambda: it.told("ActiveState") == "inactive"):
             return f"{words}: {found}"
+        rows = re.findall(r"^(\w+) (\d+) (\d+)$", it.call("cat", COUNTERS)[1], re.M)
+        if not rows or "".join(f"{name}[{at}] {value}\n" for name, at, value in rows) != cells:
+            return f"after {words} the file has {rows}, of {cells}"
+
+
+def wrong_next(it):
+    """The next server waits for the file of the present one, and serves once that is stopped."""
+    if wrong := it.started():
+        return wrong
+    if (found := it.call("systemctl", "start", "rollout@9"))[0] != 0:
+        return f"no next server: {found}"
+    if it.told("ActiveState", "rollout@9") != "active" or not it.is_asked():
+        return "a server that waits isn't started, or the present one serves no longer"
+    if (found := it.call("systemctl", "stop", "rollout"))[0] != 0:
+        return f"no stop: {found}"
+    if not awaited(lambda: OFFERED in it.call("curl", "-s", NEXT, "-d", ASK)[1]):
+        return "the next server doesn't serve"
+    if "\nhalted agent\n" not in it.call(PROGRAM, "state", "--operator", "8091")[1]:
+        return "the next server has lifted the halt"
+    it.call("systemctl", "stop", "rollout@9")
 
 
 def wrong_guard(it):
@@ -215,7 +245,8 @@ def booted_unit(folder):
     needs_root()
     with booted(folder) as into:
         it = Booted(into)
-        return wrong_start(it) or wrong_places(it) or wrong_ends(it) or wrong_guard(it)
+        wrong = wrong_start(it) or wrong_places(it) or wrong_ends(it) or wrong_next(it)
+        return wrong or wrong_guard(it)
 
 
 BOOTED = {"examples/deploy: the unit, run by a systemd of its own": booted_unit}

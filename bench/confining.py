@@ -9,6 +9,7 @@ import json
 import os
 import pwd
 import re
+import shutil
 import signal
 import subprocess
 import time
@@ -39,7 +40,11 @@ class Network:
 
     @contextlib.contextmanager
     def serving(self, host, unit, user):
-        """The unit's server, run by a user, once it is ready."""
+        """The unit's server, run by a user, once it is ready. The folder of its counters is that
+        user's, as systemd makes it."""
+        state = host.top / "var" / "lib" / "rollout"
+        for it in (state, *state.iterdir()):
+            shutil.chown(it, user, pwd.getpwnam(user).pw_gid)
         words = self.words(user, *words_of(unit, "ExecStart"))
         how = {"cwd": host.top / "etc" / "rollout", "stdout": subprocess.DEVNULL}
         server = subprocess.Popen(words, stderr=subprocess.DEVNULL, **how)

@@ -7,13 +7,14 @@ with that name.
 import os
 import re
 import signal
+import socket
 import subprocess
 import sys
 import time
 
 from booting import BOOTED
 from confining import CONFINED
-from hosts import ASK, DEPLOY, HEAD, NOTHING, OFFERED, PATIENCE, Host
+from hosts import ASK, DEPLOY, HEAD, NOTHING, OFFERED, PATIENCE, PORTS, Host
 from hosts import Skipped, asked, awaited, called, connect, needs, rest, words_of
 from proxying import PROXIED
 
@@ -143,7 +144,7 @@ def system_calls(folder):
 
 def unit_commands(folder):
     """The unit's commands: a start is ready, a reload works, and a start after a kill serves the
-    halt."""
+    halted file, and has the app that was halted at the server. A stop keeps the counters."""
     host = Host(folder / "unit")
     unit = host.file("rollout.service")
     if host.command(unit, "ExecStartPre")[0] != 0:
@@ -157,16 +158,29 @@ def unit_commands(folder):
             return "no generation 2"
         if wrong := wrong_second(host, unit):
             return wrong
+        if operated("halt agent") != "generation 3\n":
+            return "no halt"
+        if not awaited(lambda: "halted agent\n" in host.counters(), 5):
+            return f"the file has no halt: {host.counters()}"
         server.send_signal(signal.SIGKILL)
         server.wait()
     with host.started(unit) as server:
-        if NOTHING not in asked():
-            return "the halt is undone by a start"
+        if NOTHING not in asked() or "halted agent\n" not in operated("state"):
+            return "a halt is undone by a start"
         if wrong := wrong_stop(host, unit, server):
             return wrong
+    if not re.match(r"rollout counters 1\nstopped\nhalted agent\n", host.counters()):
+        return f"a stop leaves {host.counters()}"
     found = host.command(unit, "ExecStop", MAINPID="1")
     if found[0] != 1 or not found[1].startswith("refused B5 Connect\noperator port "):
         return "a stop of what has ended meanwhile"
+
+
+def operated(line):
+    """The reply of the operator's port to a line."""
+    with socket.create_connection(("127.0.0.1", int(PORTS["8081"])), timeout=PATIENCE) as stream:
+        stream.sendall(line.encode() + b"\n")
+        return rest(stream)
 
 
 def wrong_second(host, unit):

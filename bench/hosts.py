@@ -18,7 +18,8 @@ ROOT = Path(__file__).resolve().parent.parent
 DEPLOY = ROOT / "examples" / "deploy"
 STAGED = ROOT / "examples" / "staged"
 PORTS = {"8080": "18094", "8081": "18095", "8090": "18104", "8091": "18105"}
-FOLDERS = ["etc/rollout", "etc/ssl/private", "etc/nginx/conf.d", "var/log/rollout", "run"]
+FOLDERS = ["etc/rollout", "etc/ssl/private", "etc/nginx/conf.d", "var/log/rollout",
+           "var/lib/rollout", "run"]
 PATIENCE = 30
 ASK = '{"request":{"protocol":"3.1","app":[{"appid":"editor","version":"1.9","updatecheck":{}}]}}'
 HEAD = f"POST /service/update2/json HTTP/1.1\r\nContent-Length: {len(ASK)}\r\n\r\n"
@@ -135,6 +136,11 @@ class Host:
 
     def log(self):
         return self.top / "var" / "log" / "rollout" / "log"
+
+    def counters(self):
+        """The text of the file of counters; empty if there is none."""
+        file = self.top / "var" / "lib" / "rollout" / "counters"
+        return file.read_text() if file.exists() else ""
 
 
 def line_of(unit, name):

@@ -1,6 +1,6 @@
 """Checks docs/INSTALL.md: the upgrade that loses no request. It runs the page's commands and the
 template unit, with only paths and ports changed, while clients send requests through nginx without
-a pause.
+a pause. The next server goes on with the counters of the one before it.
 
 systemctl is replaced by a script that runs the unit's commands as systemd does. If a command isn't
 installed, the check is skipped with that name.
@@ -50,7 +50,7 @@ class Site:
         self.put("systemctl", f'cd {top}/etc/rollout\ncase "$*" in\n{cases}esac\n')
         words = [shutil.which("nginx"), *self.nginx[1:]]
         self.put("nginx", f'exec {" ".join(words)} "$@"\n')
-        path = f"{top / 'bin'}:{os.environ['PATH']}"
+        path = f"{top / 'bin'}:{top / 'opt' / 'rollout' / 'bin'}:{os.environ['PATH']}"
         self.how = {"cwd": top, "env": {**os.environ, "PATH": path}, "capture_output": True}
 
     def cases(self, instance, unit):
@@ -126,13 +126,14 @@ class Load:
             it.join()
 
 
-def counted(log):
-    """The counter of all requests, as the log has it when a server ends."""
-    return sum(map(int, re.findall(r'"array":"asked","index":0,"value":(\d+)', log.read_text())))
+def counted(host):
+    """The counter of all requests, as the file has it when a server ends."""
+    [number] = re.findall(r"^asked 0 (\d+)$", host.counters(), re.M)
+    return int(number)
 
 
 def wrong_upgrade(site):
-    """Upgrades from the old server to the new one under load; their counters say what each
+    """Upgrades from the old server to the new one under load; their counter says what both
     answered."""
     host, commands = site.host, section("INSTALL.md", TITLE)[0]
     with Load(host) as load:
@@ -143,14 +144,14 @@ def wrong_upgrade(site):
         took, during = time.monotonic() - begun, sum(load.whole) - before
         if listens(PORTS["8081"]) or not listens(PORTS["8091"]):
             return "the old one goes on, or the new one doesn't"
-        first = counted(host.log())
+        first = counted(host)
         awaited(lambda: sum(load.whole) > LEAST and sum(load.whole) - before > 2 * during)
     if load.lost:
         return f"{len(load.lost)} lost of {sum(load.whole)}: {load.lost[0]}"
     if (found := site.run("systemctl disable --now rollout@9"))[0] != 0:
         return f"{found}"
-    if not 0 < first < counted(host.log()) == sum(load.whole):
-        return f"{first} and {counted(host.log())} are counted, and {sum(load.whole)} were answered"
+    if not 0 < first < counted(host) == sum(load.whole):
+        return f"{first} and {counted(host)} are counted, and {sum(load.whole)} were answered"
     print(f"    0 lost of {sum(load.whole)}, of them {during} in the {took:.1f} s of the commands")
 
 
