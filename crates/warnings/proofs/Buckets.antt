@@ -1,9 +1,10 @@
 -- Whether a property holds for some number below a bound, and for the app of some bucket.
 use Rattle.std.proofs.Common.{◌≡◌, ℕ, zero, suc, ◌+◌, ◌<◌, List, Bool, true, false, ◌||◌}
-use Rattle.std.proofs.Common.{Option, refl, sym, ap, ◌∙◌, subst, arith, inl, inr, add-one}
+use Rattle.std.proofs.Common.{Option, unwrap_or, refl, sym, ap, ◌∙◌, subst, arith, inl, inr, add-one}
 use Rattle.std.proofs.lemmas.Bool.{cases_Bool, cases_lt, or_right}
 use Rattle.attrs.specs.Attributes.{Attributes, plain}
-use Rattle.warnings.specs.Evaluation.{RuleOfApp, any_below, in_some_bucket}
+use Rattle.warnings.specs.Evaluation.{any_below}
+use Rattle.warnings.specs.Getting.{moved}
 
 -- ---- numbers
 
@@ -60,9 +61,6 @@ some_at p (suc n) some = elim (cases_Bool (any_below p n)) [
 
 -- ---- buckets
 
-abbrev pub moved : Attributes → ℕ → Attributes
-moved a bucket = record a { context = record a.context { bucket = bucket } }
-
 -- with its bucket set, `a` is the plain app of that bucket
 abbrev pub AreClients : List ℕ → Option (List ℕ) → Attributes → Type 0
 AreClients appid version a = (bucket : ℕ) → moved a bucket ≡ plain appid version bucket
@@ -76,24 +74,35 @@ pub moves : (appid : List ℕ) (version : Option (List ℕ)) (a b : Attributes) 
 moves appid version a b k clients is bucket =
     ap (λ (x : Attributes). moved x bucket) is ∙ clients bucket
 
-there : (question : Attributes → Bool) (appid : List ℕ) (version : Option (List ℕ))
-    (a b : Attributes) (k : ℕ) (got : Bool) → AreClients appid version a → b ≡ moved a k
-    → got ≡ question b → question (plain appid version k) ≡ got
-there question appid version a b k got clients is answers =
-    ap question (sym (is ∙ clients k)) ∙ sym answers
+-- ---- a client that is moved to the bucket of its cohort, or otherwise from bucket to bucket
 
-pub found : (r : RuleOfApp) (question : Attributes → Bool) (version : Option (List ℕ))
-    (a b : Attributes) (k : ℕ) (got : Bool) → AreClients r.appid version a → b ≡ moved a k
-    → k < 10000 → got ≡ question b → got ≡ true → true ≡ in_some_bucket r question version
-found r question version a b k got clients is within answers holds =
-    sym (any_found (λ bucket. question (plain r.appid version bucket)) k 10000 within
-    (there question r.appid version a b k got clients is answers ∙ holds))
+-- the property holds in none of the first `k` buckets
+abbrev pub IsNowhere : (Attributes → Bool) → (named : Option ℕ) → Attributes → ℕ → Type 0
+IsNowhere question named a k =
+    any_below (λ hashed. question (moved a (unwrap_or named hashed))) k ≡ false
 
-pub not_found : (question : Attributes → Bool) (appid : List ℕ) (version : Option (List ℕ))
-    (a b : Attributes) (k : ℕ) (got : Bool) → AreClients appid version a → b ≡ moved a k
-    → got ≡ question b → got ≡ false
-    → any_below (λ bucket. question (plain appid version bucket)) k ≡ false
-    → any_below (λ bucket. question (plain appid version bucket)) (k + 1) ≡ false
-not_found question appid version a b k got clients is answers fails before =
-    none_more (λ bucket. question (plain appid version bucket)) k before
-    (there question appid version a b k got clients is answers ∙ fails)
+-- `b` is the client `a` in some bucket
+abbrev pub IsMoved : (a b : Attributes) → Type 0
+IsMoved a b = (bucket : ℕ) → moved b bucket ≡ moved a bucket
+
+pub still_moved : (a b c : Attributes) (place : ℕ) → IsMoved a b → c ≡ moved b place → IsMoved a c
+still_moved a b c place client is bucket =
+    ap (λ (x : Attributes). moved x bucket) is ∙ client bucket
+
+module _ (question : Attributes → Bool) (named : Option ℕ) (a b c : Attributes) (k place : ℕ)
+    (got : Bool) (client : IsMoved a b) (placed : place ≡ unwrap_or named k) (is : c ≡ moved b place)
+    (answers : got ≡ question c) where
+  here_is : question (moved a (unwrap_or named k)) ≡ got
+  here_is =
+      ap (λ p. question (moved a p)) (sym placed) ∙ ap question (sym (is ∙ client place))
+      ∙ sym answers
+
+  pub found : k < 10000 → got ≡ true
+      → true ≡ any_below (λ hashed. question (moved a (unwrap_or named hashed))) 10000
+  found within holds =
+      sym (any_found (λ hashed. question (moved a (unwrap_or named hashed))) k 10000 within
+      (here_is ∙ holds))
+
+  pub not_found : got ≡ false → IsNowhere question named a k → IsNowhere question named a (k + 1)
+  not_found fails before =
+      none_more (λ hashed. question (moved a (unwrap_or named hashed))) k before (here_is ∙ fails)

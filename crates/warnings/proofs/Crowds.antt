@@ -14,7 +14,8 @@ use Rattle.warnings.specs.Evaluation.{RuleOfApp, any_below, arrives, in_some_buc
 use Rattle.warnings.specs.Evaluation.{someone}
 use Rattle.warnings.specs.Marks.{AreMarked, Crowd, each_by, is_count, is_ended, is_reached, nobody}
 use Rattle.warnings.specs.Marks.{with_buckets, with_one}
-use Rattle.warnings.proofs.Buckets.{AreClients, moved, moves, none_below_zero}
+use Rattle.warnings.specs.Getting.{moved}
+use Rattle.warnings.proofs.Buckets.{AreClients, moves, none_below_zero}
 use Rattle.warnings.proofs.Each.{len_each, same_each}
 use Rattle.warnings.proofs.Someone.{any_grows, any_more}
 

@@ -1,11 +1,14 @@
 -- Warnings on a rule are true.
-use Rattle.std.proofs.Common.{◌≡◌, ℕ, ◌<◌, ◌≤◌, ◌/◌, ℤ, pos, negsuc, List, ◌∷◌, ◌++◌, Some, None}
-use Rattle.std.proofs.Common.{Bool, true, false, refl, sym, subst, arith}
+use Rattle.std.proofs.Common.{◌≡◌, ℕ, ◌<◌, ◌≤◌, ◌/◌, ℤ, pos, negsuc, List, [], ◌∷◌, ◌++◌, None}
+use Rattle.std.proofs.Common.{Bool, true, false, ◌&&◌, ◌||◌, inl, inr, refl, sym, ap, ◌∙◌, subst}
+use Rattle.std.proofs.Common.{arith}
+use Rattle.std.specs.List.{list_any}
+use Rattle.std.proofs.lemmas.Bool.{and_parts, cases_Bool}
 use Rattle.attrs.specs.Attributes.{Attributes, plain}
 use Rattle.attrs.specs.Moment.{elapsed, elapsed_days}
 use Rattle.rule_lang.specs.declared.condition.Step.{Step}
 use Rattle.rule_lang.specs.declared.rule.Statement.{Statement}
-use Rattle.rule_lang.specs.declared.rule.Statement.TheVariants.{When}
+use Rattle.rule_lang.specs.declared.rule.Statement.TheVariants.{Count, When}
 use Rattle.rule_lang.specs.declared.test.Comparison.{Comparison}
 use Rattle.rule_lang.specs.declared.test.Test.{Test}
 use Rattle.warnings.specs.declared.possible.Clients.{Clients}
@@ -15,6 +18,9 @@ use Rattle.warnings.specs.RuleWarnings.{ungiven_warning, when_warning}
 use Rattle.warnings.specs.Evaluation.{RuleOfApp, arrives, gets, in_some_bucket, may_end, may_give}
 use Rattle.warnings.specs.Evaluation.{someone, tests_for}
 use Rattle.warnings.specs.Course.{first_offer}
+use Rattle.warnings.specs.Client.{app_for, attributes_in, moment_for, request_for}
+use Rattle.warnings.specs.Getting.{client_gets, clients_are_few, someone_gets, statement_gets}
+use Rattle.warnings.specs.Wanted.{needs_more}
 use Rattle.warnings.specs.Runs.{IsNeverChosen, IsNeverPassed, IsSoOfRelease, IsSoOfVersion}
 use Rattle.warnings.specs.Runs.{IsSoOfWhen, MaySend, MayGet, NeverHolds, ReleasesAreSo}
 use Rattle.warnings.specs.Runs.{VersionsAreSo, WhensAreSo}
@@ -141,15 +147,24 @@ releases_so app number r some =
 
 -- ---- clients that have a version
 
-got_so : (r : RuleOfApp) (by : Comparison) (version : List ℕ)
-    → in_some_bucket r (gets r by version One) (Some version) ≡ true → MayGet r by version
-got_so r by version some =
-    let w = some_at (λ bucket. gets r by version One (plain r.appid (Some version) bucket)) 10000
-    some in
-    let a = plain r.appid (Some version) w.number in
+client_so : (r : RuleOfApp) (by : Comparison) (version : List ℕ) (steps : List Step)
+    → client_gets r by version steps ≡ true → MayGet r by version
+client_so r by version steps some =
+    let app = app_for r.appid version steps in
+    let request = request_for steps in
+    let moment = moment_for steps in
+    let w = some_at (λ hashed. gets r by version One (attributes_in app request moment hashed))
+    10000 some in
+    let a = attributes_in app request moment w.number in
     let run = first_chosen a r.shape r.rule in
     record {
-      bucket = w.number;
+      app = app;
+      appid = refl;
+      version_is = refl;
+      updatecheck = refl;
+      request = request;
+      moment = moment;
+      hashed = w.number;
       within = w.below;
       events = run.events;
       fresh = run.fresh;
@@ -158,9 +173,36 @@ got_so r by version some =
       compares = w.holds;
     }
 
+statement_so : (r : RuleOfApp) (by : Comparison) (version : List ℕ) (st : Statement)
+    → statement_gets r by version st ≡ true → MayGet r by version
+statement_so r by version (Count name index) some = absurd cc
+statement_so r by version (When steps release) some =
+    client_so r by version steps
+    (let both = and_parts (needs_more steps) (client_gets r by version steps) some in both.1)
+
+some_so : (r : RuleOfApp) (by : Comparison) (version : List ℕ) (rule : List Statement)
+    → list_any (statement_gets r by version) rule ≡ true → MayGet r by version
+some_so r by version [] some = absurd cc
+some_so r by version (st ∷ rest) some = elim (cases_Bool (statement_gets r by version st)) [
+  | inl here ↦ statement_so r by version st here
+  | inr past ↦ some_so r by version rest
+      (ap (λ b. b || list_any (statement_gets r by version) rest) (sym past) ∙ some)
+]
+
+got_so : (r : RuleOfApp) (by : Comparison) (version : List ℕ)
+    → someone_gets r by version ≡ true → MayGet r by version
+unfolding someone_gets
+got_so r by version some = elim (cases_Bool (client_gets r by version [])) [
+  | inl alone ↦ client_so r by version [] alone
+  | inr past ↦
+      let others = clients_are_few r && list_any (statement_gets r by version) r.rule in
+      let both = and_parts (clients_are_few r) (list_any (statement_gets r by version) r.rule)
+      (ap (λ b. b || others) (sym past) ∙ some) in
+      some_so r by version r.rule both.1
+]
+
 version_so : (app number : ℕ) (r : RuleOfApp) (by : Comparison) (version : List ℕ)
-    (what : WarningKind) (got : Bool)
-    → in_some_bucket r (gets r by version One) (Some version) ≡ got
+    (what : WarningKind) (got : Bool) → someone_gets r by version ≡ got
     → IsSoOfVersion app number r by version what (warned_if got (the_place.Release app number) what)
 version_so app number r by version what false is = so.IsSoOfVersion.nothing
 version_so app number r by version what true is =
@@ -168,5 +210,4 @@ version_so app number r by version what true is =
 
 pub versions_so : VersionsAreSo
 versions_so app number r by version what =
-    version_so app number r by version what
-    (in_some_bucket r (gets r by version One) (Some version)) refl
+    version_so app number r by version what (someone_gets r by version) refl

@@ -4,7 +4,7 @@ use Rattle.std.proofs.Common.{length, take, drop, get_or, sym, ap, arith}
 use Rattle.std.specs.Prelude.{option_and_then}
 use Rattle.std.proofs.lemmas.List.Sums.{sum_by-cons}
 use Rattle.rule_lang.specs.declared.rule.Statement.{Statement}
-use Rattle.warnings.specs.RuleWarnings.{budget_less, budget_taken, step_count}
+use Rattle.warnings.specs.Budget.{budget_less, budget_taken, step_count}
 use Rattle.warnings.proofs.Reported.{first_rest}
 
 in_parts : (a b budget : ℕ)

@@ -4,7 +4,11 @@ pub mod Releases
 pub mod Spots
 pub mod Possible
 pub mod Course
+pub mod Wanted
 pub mod Evaluation
+pub mod Budget
+pub mod Client
+pub mod Getting
 pub mod Marks
 pub mod RuleWarnings
 pub mod Runs

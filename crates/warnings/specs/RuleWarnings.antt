@@ -1,9 +1,9 @@
 -- Warnings on an app's rule: on its tests, which are read, and on its `when`s and releases, for
 -- which it is evaluated.
-use Rattle.std.specs.Prelude.{ℕ, ◌+◌, ◌-◌, ◌*◌, List, [], ◌∷◌, ◌++◌, not}
-use Rattle.std.specs.Prelude.{length, Bool, true, false, ◌&&◌, nat_le, nat_lt, if◌then◌else◌}
+use Rattle.std.specs.Prelude.{ℕ, ◌+◌, List, [], ◌∷◌, ◌++◌, not}
+use Rattle.std.specs.Prelude.{length, Bool, true, false, ◌&&◌, nat_lt, if◌then◌else◌}
 use Rattle.std.specs.Prelude.{Option, Some, None, is_some, unwrap_or, codes, nat_eq}
-use Rattle.std.specs.List.{list_any, starts_with, sum_by}
+use Rattle.std.specs.List.{list_any, starts_with}
 use Rattle.attrs.specs.Bucket.{cohort_bucket}
 use Rattle.attrs.specs.declared.vocabulary.Attribute.TheVariants.{Cohort}
 use Rattle.releases.specs.Release.{Release}
@@ -15,15 +15,15 @@ use Rattle.rule_lang.specs.declared.test.Comparison.{Comparison}
 use Rattle.rule_lang.specs.declared.test.Comparison.TheVariants.{Eq, Le, Lt}
 use Rattle.rule_lang.specs.declared.test.Test.{Test}
 use Rattle.rule_lang.specs.declared.test.Test.TheVariants as test
-use Rattle.warnings.specs.declared.possible.Clients.TheVariants.{One}
 use Rattle.warnings.specs.declared.spot.Spot.{Spot}
 use Rattle.warnings.specs.declared.warning.WarningPlace.{WarningPlace}
 use Rattle.warnings.specs.declared.warning.WarningPlace.TheVariants as place
 use Rattle.warnings.specs.declared.warning.Warning.{Warning}
 use Rattle.warnings.specs.declared.warning.WarningKind.{WarningKind}
 use Rattle.warnings.specs.declared.warning.WarningKind.TheVariants as kind
-use Rattle.warnings.specs.Evaluation.{RuleOfApp, all_buckets, arrives, gets, in_some_bucket}
-use Rattle.warnings.specs.Evaluation.{may_end, may_give, someone}
+use Rattle.warnings.specs.Budget.{budget_less, budget_taken}
+use Rattle.warnings.specs.Evaluation.{RuleOfApp, all_buckets, arrives, may_end, may_give, someone}
+use Rattle.warnings.specs.Getting.{someone_gets}
 use Rattle.warnings.specs.Spots.{spots_of}
 use Rattle.warnings.specs.Warnings.{warned, warned_if}
 
@@ -142,11 +142,11 @@ statements_from app r spots before (st ∷ rest) =
 abbrev pub ungiven_warning : (given : Bool) → (app number : ℕ) → List Warning
 ungiven_warning given app number = warned_if (not given) (place.Release app number) kind.NoBucket
 
--- a client that sends only this version gets a release whose version compares by `by` with it
+-- a client that has this version gets a release whose version compares by `by` with it
 abbrev pub got_at : WarningPlace → RuleOfApp → Comparison → (version : List ℕ) → WarningKind
     → List Warning
 got_at at r by version what =
-    warned_if (in_some_bucket r (gets r by version One) (Some version)) at what
+    warned_if (someone_gets r by version) at what
 
 abbrev pub got_warning : (app number : ℕ) → RuleOfApp → Comparison → (version : List ℕ)
     → WarningKind → List Warning
@@ -167,19 +167,6 @@ evaluated_releases app number r spots (release ∷ later) =
     ++ evaluated_releases app (number + 1) r spots later
 
 -- ---- the budget of evaluation
-
--- a `count` is one step, and a `when` has those of its condition
-abbrev pub step_count : Statement → ℕ
-step_count (Count name index) = 1
-step_count (When steps release) = length steps
-
--- a rule costs one unit for each step of its statements, at each spot and for each release
-abbrev pub budget_taken : (versions : ℕ) → List Statement → ℕ
-budget_taken versions rule = versions * sum_by step_count rule
-
--- `None` if the budget is too small
-abbrev pub budget_less : (taken budget : ℕ) → Option ℕ
-budget_less taken budget = if nat_le taken budget then Some (budget - taken) else None
 
 abbrev pub budget_after : RuleOfApp → (budget : ℕ) → Option ℕ
 budget_after r budget =

@@ -3,9 +3,11 @@ use Rattle.std.specs.Prelude.{◌≡◌, ℕ, ◌<◌, ◌≤◌, ℤ, List, [],
 use Rattle.std.specs.Prelude.{All, false}
 use Rattle.std.specs.List.{count_by, range_with_len}
 use Rattle.std.specs.Ordering.{nat_cmp}
-use Rattle.attrs.specs.Attributes.{Attributes, plain}
+use Rattle.attrs.specs.Attributes.{Attributes}
 use Rattle.attrs.specs.Context.{HasContextRanges}
 use Rattle.attrs.specs.Moment.{elapsed_days}
+use Rattle.attrs.specs.declared.facts.AppFacts.{AppFacts}
+use Rattle.attrs.specs.declared.facts.RequestFacts.{RequestFacts}
 use Rattle.cells.specs.Arrays.{AppShape}
 use Rattle.cells.specs.declared.event.CellEvent.{CellEvent}
 use Rattle.rule_lang.specs.declared.condition.Step.{Step}
@@ -16,6 +18,7 @@ use Rattle.rule_lang.specs.declared.test.Comparison.TheVariants.{Le, Lt}
 use Rattle.rule_lang.specs.declared.test.Test.{Test}
 use Rattle.rule_lang.specs.declared.test.Test.TheVariants as test
 use Rattle.rule_lang.specs.Meaning.{Behaviour, HasTrace, allows, behaviour, test_then}
+use Rattle.warnings.specs.Client.{attributes_in}
 use Rattle.warnings.specs.RuleWarnings.{first_line, got_warning, statement_warning, test_warning}
 use Rattle.warnings.specs.RuleWarnings.{ungiven_warning}
 use Rattle.warnings.specs.Evaluation.{RuleOfApp, all_buckets, choice_compares, may_give, someone}
@@ -68,15 +71,22 @@ IsNeverChosen s rule release =
 
 -- ---- what some run does
 
--- some run for a client that sends only this version, with each counter replying 0, gets a release
--- whose version compares by `by` with it
+-- an app that has this version requests an update at some moment, in a request whose id hashes to
+-- some bucket. With each counter replying 0, it gets a release whose version compares by `by` with
+-- it
 pub record MayGet (r : RuleOfApp) (by : Comparison) (version : List ℕ) : Type 0 where
-  pub bucket : ℕ
-  pub within : bucket < 10000
+  pub app : AppFacts
+  pub appid : app.appid ≡ r.appid
+  pub version_is : app.version ≡ Some version
+  pub updatecheck : app.updatecheck ≡ true
+  pub request : RequestFacts
+  pub moment : ℤ
+  pub hashed : ℕ
+  pub within : hashed < 10000
   pub events : List CellEvent
   pub fresh : All (λ e. e.reply ≡ 0) events
   pub choice : ℕ
-  pub chooses : HasTrace (behaviour (plain r.appid (Some version) bucket) r.shape r.rule) events
+  pub chooses : HasTrace (behaviour (attributes_in app request moment hashed) r.shape r.rule) events
       choice
   pub compares : choice_compares by r.releases version choice ≡ true
 

@@ -1,7 +1,7 @@
 //! The budget of evaluation for all rules of a manifest.
 
 ghost use Rattle.std.specs.Prelude.{◌≡◌, ◌*◌};
-ghost use Rattle.warnings.specs.RuleWarnings as specs;
+ghost use Rattle.warnings.specs.Budget as specs;
 
 use rule_lang::Statement;
 

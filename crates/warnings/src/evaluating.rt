@@ -1,16 +1,16 @@
-//! Evaluates an app's rule in each bucket, for clients that have a release.
+//! What a rule gives one client that has a release.
 
-ghost use Rattle.std.specs.Prelude.{◌≡◌, IfOk, Some, option_copied};
+ghost use Rattle.std.specs.Prelude.{◌≡◌, IfOk, option_copied};
 ghost use Rattle.warnings.specs.Evaluation as specs;
 
 use crate::course::first_offer;
 use crate::possible::{Clients, Possible};
-use attrs::{Attrs, Bucket, read_version};
+use attrs::{Attrs, read_version};
 use cells::Shape;
 use releases::Release;
 use rule_eval::{allows, compare_versions};
 use rule_lang::{Comparison, Statement};
-use std::alloc::{AllocError, Global};
+use std::alloc::AllocError;
 
 /// An app, its shape, its releases and the statements of its rule.
 #[derive(Drop)]
@@ -66,7 +66,9 @@ fn choice_compares(by: Comparison, releases: &[Release], version: &str, choice: 
     release_compares(by, releases.get(choice as usize - 1), version)
 }
 
-fn gets(
+/// Whether the rule ends with a release whose version compares by `by` with this version, for one
+/// client. Each counter replies 0.
+pub(crate) fn gets(
     stack: &mut Vec<Possible>,
     evaluated: &EvaluatedRule<'_>,
     by: Comparison,
@@ -84,31 +86,4 @@ fn gets(
         evaluated.statements,
     )?;
     Ok(choice_compares(by, evaluated.releases, version, choice))
-}
-
-/// Whether, in some bucket, a client that sends only this version gets a release whose version
-/// compares by `by` with it. Each counter replies 0.
-pub(crate) fn gets_in_some_bucket(
-    alloc: Global,
-    evaluated: &EvaluatedRule<'_>,
-    by: Comparison,
-    version: &str,
-) -> Result<bool, AllocError>
-    ensures { IfOk result (λ yes. yes ≡ specs.in_some_bucket (specs.rule_of evaluated.now)
-        (specs.gets (specs.rule_of evaluated.now) by version.now Clients.One) (Some version.now)) }
-{
-    let Ok(mut attrs) = Attrs::plain(alloc, evaluated.appid, Some(version), 0) else {
-        return Err(AllocError);
-    };
-    let mut stack = Vec::new(alloc);
-    let mut bucket = 0;
-    while bucket < Bucket::COUNT {
-        let place = Bucket::new(bucket);
-        attrs = attrs.in_bucket(place);
-        if gets(&mut stack, evaluated, by, version, &attrs)? {
-            return Ok(true);
-        }
-        bucket += 1;
-    }
-    Ok(false)
 }

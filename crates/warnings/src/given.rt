@@ -7,15 +7,15 @@ ghost use Rattle.warnings.specs.RuleWarnings as specs;
 ghost use Rattle.warnings.specs.Evaluation.{rule_of, someone};
 ghost use Rattle.warnings.specs.Marks.{AreMarked};
 
-use crate::evaluating::{EvaluatedRule, gets_in_some_bucket};
+use crate::evaluating::EvaluatedRule;
+use crate::getting::someone_gets;
 use crate::marks::{Marks, is_given};
 use crate::warning::{Warning, WarningKind, WarningPlace, warn_if};
 use releases::Release;
 use rule_lang::Comparison;
 use std::alloc::{AllocError, Global};
 
-// A warning if a client that sends only this version gets a release whose version compares by `by`
-// with it.
+// A warning if a client that has this version gets a release whose version compares by `by` with it.
 fn push_got_warning(
     alloc: Global,
     warnings: &mut Vec<Warning>,
@@ -28,7 +28,7 @@ fn push_got_warning(
     ensures { OnOk result (warnings.new.items ≡ warnings.old.items
         ++ specs.got_at place (rule_of evaluated.now) by version.now what) }
 {
-    let got = gets_in_some_bucket(alloc, evaluated, by, version)?;
+    let got = someone_gets(alloc, evaluated, by, version)?;
     warn_if(warnings, got, place, what)
 }
 

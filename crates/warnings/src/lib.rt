@@ -16,9 +16,10 @@
 // bucket and spot. The walk marks the statements that are reached, and those that may end the rule
 // (`marks.rt`).
 //
-// A client that has a release may be offered it again, or a lower one. That is evaluated for a
-// client that sends only its version, and with each counter replying 0 (`evaluating.rt`). Then each
-// test is decided.
+// A client that has a release may be offered it again, or a lower one. That is evaluated for one
+// client at a time, with each counter replying 0, so each test is decided (`evaluating.rt`). One
+// client sends only its version. For each `when` that requires more (`wanted.rt`), another one
+// sends that, too (`client.rt`, `getting.rt`).
 //
 // A bucket test whose number is probably too small or too large is found by reading the rule,
 // without evaluating it (`parts.rt`). So are an early day, a cohort that no reply has, and a take
@@ -33,9 +34,11 @@
 
 mod appid;
 mod budget;
+mod client;
 mod condition;
 mod course;
 mod evaluating;
+mod getting;
 mod given;
 mod holding;
 mod laws;
@@ -46,6 +49,7 @@ mod release;
 mod rule_warnings;
 mod spot;
 mod takes;
+mod wanted;
 mod warning;
 mod warning_lines;
 mod warning_names;

@@ -71,12 +71,14 @@ fn push_evaluated_warnings(
 /// - a `when` that is never reached or never holds, and a release that no bucket gets, nor a later
 ///   one: at any version, for any other attributes and any counter replies;
 /// - a release if a client at its version may, in some bucket, be offered that version again or a
-///   lower one: if the client sends only its version and bucket, and each counter replies 0.
+///   lower one: if the client sends only its version, or also what the tests of some `when`
+///   require, and each counter replies 0.
 ///
 /// A rule costs one unit of the budget for each `count`, each step of its conditions, and each
 /// evaluation. It is evaluated at the lowest version, at each version that it names, just above
 /// each, and for each release. A rule that would exceed the budget isn't evaluated and costs
-/// nothing, and the warning says so. Its tests are still read.
+/// nothing, and the warning says so. Its tests are still read. The clients of `when`s take nothing
+/// from the budget; a rule for which they would cost more than 1000 units is evaluated without them.
 // open: whether an allocation fails; that a rule with such a `when` or release has its warning: one
 // may be missing.
 pub fn push_rule_warnings(

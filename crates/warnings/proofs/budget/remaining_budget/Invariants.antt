@@ -1,5 +1,5 @@
 use Rattle.std.proofs.Common.{◌≡◌, length}
-use Rattle.warnings.specs.RuleWarnings.{budget_less, budget_taken}
+use Rattle.warnings.specs.Budget.{budget_less, budget_taken}
 use Rattle.warnings.proofs.budget.remaining_budget.Given as goal
 
 -- the remaining statements decide
