@@ -1,0 +1,172 @@
+"""Checks of `bench/counters`: a folder that is full, read-only or gone, and a device that hangs.
+
+In each a request that takes nothing is answered at once. One that takes a place gets its offer only
+if the file covers it, or else 503, K4; and afterwards offers again. Each check is given the program
+and an empty folder, and returns what it counted.
+"""
+import contextlib
+import shutil
+import time
+
+from counters_servers import PROMPT, Asking, Rig, disk, fill, mounted, opened, plain, tmpfs
+from hosts import Wrong, called
+
+QUOTA = 10_000
+# A reply that takes a place waits two seconds for the file.
+WAITS = (1.5, 4.0)
+# Takes until one is withheld: at most this many are covered ahead of use.
+MOST_AHEAD = QUOTA // 64 + 1
+RECOVERY = 10
+
+
+def until_withheld(rig, server):
+    """Takes until a reply is withheld; the seconds that this one took."""
+    for _ in range(2 * MOST_AHEAD):
+        is_offer, seconds = rig.take(server)
+        if is_offer is None:
+            return seconds
+    raise Wrong(f"no reply is withheld of {vars(rig.tally)}")
+
+
+def until_offered(rig, server):
+    """Takes until there is an offer again."""
+    until = time.monotonic() + RECOVERY
+    while time.monotonic() < until:
+        if rig.take(server)[0]:
+            return
+        time.sleep(0.1)
+    raise Wrong(f"no offers for {RECOVERY} s after it: {vars(rig.tally)}")
+
+
+def withheld_while(rig, server, broken):
+    """While the folder is broken: offers that are covered, then 503 at once; others are answered.
+    Then offers again. Returns the longest time of another request."""
+    rig.take(server)
+    with broken, Asking(server) as others:
+        until_withheld(rig, server)
+        for _ in range(20):
+            is_offer, seconds = rig.take(server)
+            if is_offer is not None or seconds > PROMPT:
+                raise Wrong(f"after a reply that was withheld: {is_offer} after {seconds:.1f} s")
+        time.sleep(0.2)
+    until_offered(rig, server)
+    return others.prompt()
+
+
+@contextlib.contextmanager
+def filled(place):
+    fill(place)
+    yield
+    (place / "filler").unlink()
+
+
+@contextlib.contextmanager
+def read_only(place):
+    """The folder itself, mounted over it once more."""
+    with mounted(place, "--bind", str(place), exist_ok=True):
+        if (found := called("mount", "-o", "remount,bind,ro", str(place)))[0] != 0:
+            raise OSError(found[1])
+        yield
+
+
+@contextlib.contextmanager
+def gone(place):
+    shutil.rmtree(place)
+    yield
+    place.mkdir()
+
+
+def broken_and_mended(rig, breaks):
+    """A server whose folder breaks, twice; a start and an end while it is broken."""
+    with opened(rig.server()) as server:
+        longest = max(withheld_while(rig, server, breaks(rig.place)) for _ in range(2))
+        rig.stopped(server)
+    rig.exact()
+    said = f"{rig.tally.offers} offers, {rig.tally.withheld} replies by 503, others within "
+    return f"{said}{longest:.2f} s"
+
+
+def ends_broken(rig, breaks):
+    """A stop while the folder is broken ends with status 1; the file then covers each offer. A
+    start is refused by K4."""
+    with opened(rig.server()) as server:
+        rig.take(server)
+        with breaks(rig.place):
+            before = rig.file.read_bytes()
+            rig.stopped(server, 1)
+            if "refused K4 Store" not in server.said():
+                raise Wrong(f"a stop: {server.said()}")
+            rig.refused("K4 Store")
+            if rig.file.read_bytes() != before or rig.number() < rig.tally.offers:
+                raise Wrong(f"a stop leaves {rig.number()}, after {rig.tally.offers} offers")
+
+
+def full_disk(program, folder):
+    with tmpfs(folder / "disk") as place:
+        rig = Rig(program, folder, QUOTA, place)
+        said = broken_and_mended(rig, filled)
+        ends_broken(rig, filled)
+        return said
+
+
+def read_only_folder(program, folder):
+    place = folder / "place"
+    place.mkdir()
+    rig = Rig(program, folder, QUOTA, place)
+    said = broken_and_mended(rig, read_only)
+    ends_broken(rig, read_only)
+    return said
+
+
+def folder_gone(program, folder):
+    place = folder / "place"
+    place.mkdir()
+    rig = Rig(program, folder, QUOTA, place)
+    said = broken_and_mended(rig, gone)
+    shutil.rmtree(place)
+    rig.refused("K4 Store")
+    return said
+
+
+@contextlib.contextmanager
+def frozen(place):
+    """Writes to the device wait. A process that waits so can't even be killed."""
+    if (found := called("fsfreeze", "--freeze", str(place)))[0] != 0:
+        raise OSError(found[1])
+    try:
+        yield
+    finally:
+        called("fsfreeze", "--unfreeze", str(place))
+
+
+def hangs(program, folder):
+    """The first reply waits two seconds, and gets 503; all later ones get it at once."""
+    waits = []
+    with disk(folder / "disk") as place:
+        rig = Rig(program, folder, QUOTA, place)
+        with opened(rig.server()) as server:
+            rig.take(server)
+            longest = 0
+            for _ in range(3):
+                with frozen(place), Asking(server) as others:
+                    waits.append(until_withheld(rig, server))
+                    for _ in range(20):
+                        is_offer, seconds = rig.take(server)
+                        if is_offer is not None or seconds > PROMPT:
+                            raise Wrong(f"a second reply: {is_offer} after {seconds:.1f} s")
+                until_offered(rig, server)
+                longest = max(longest, others.prompt())
+            rig.stopped(server)
+        rig.exact()
+    if not all(WAITS[0] <= it <= WAITS[1] for it in waits):
+        raise Wrong(f"replies waited {waits}")
+    said = f"{rig.tally.offers} offers, {rig.tally.withheld} replies by 503, the first of each"
+    return f"{said} time after {max(waits):.1f} s, others within {longest:.2f} s"
+
+
+DEVICES = {
+    "a full disk": full_disk,
+    "a read-only folder": read_only_folder,
+    "a folder that is removed": folder_gone,
+    "a device that hangs": hangs,
+}
