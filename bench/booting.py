@@ -12,7 +12,7 @@ import subprocess
 from pathlib import Path
 
 from hosts import ASK, DEPLOY, OFFERED, STAGED
-from hosts import Host, Skipped, awaited, called, child_of, needs, needs_root
+from hosts import Host, Skipped, awaited, called, child_of, needs, needs_root, section
 
 AS_ANOTHER = ["setpriv", "--reuid=65534", "--regid=65534", "--clear-groups"]
 PROGRAM, AT = "/opt/rollout/bin/rollout", ["--operator", "8081"]
@@ -218,6 +218,17 @@ def wrong_next(it):
     it.call("systemctl", "stop", "rollout@9")
 
 
+def wrong_edit(it):
+    """The page's commands set a counter while the server is stopped."""
+    if wrong := it.started():
+        return wrong
+    block = section("OPERATING.md", "The file of counters")[0].replace("first", "asked")
+    found = it.call("sh", "-ec", f"PATH=/opt/rollout/bin:$PATH\n{block}")
+    if found != (0, "asked[0] 500\n"):
+        return f"an edited file: {found}"
+    it.call("systemctl", "stop", "rollout")
+
+
 def wrong_guard(it):
     """With rollout-nft a server starts only if the rules are loaded, and a restart of rollout-nft
     doesn't restart the server."""
@@ -246,7 +257,7 @@ def booted_unit(folder):
     with booted(folder) as into:
         it = Booted(into)
         wrong = wrong_start(it) or wrong_places(it) or wrong_ends(it) or wrong_next(it)
-        return wrong or wrong_guard(it)
+        return wrong or wrong_edit(it) or wrong_guard(it)
 
 
 BOOTED = {"examples/deploy: the unit, run by a systemd of its own": booted_unit}

@@ -1,19 +1,19 @@
 """Checks of `bench/counters`: a folder that is full, read-only or gone, and a device that hangs.
 
-In each a request that takes nothing is answered at once. One that takes a place gets its offer only
-if the file covers it, or else 503, K4; and afterwards offers again. Each check is given the program
-and an empty folder, and returns what it counted.
+In each a request that takes nothing is answered at once, and an app can be halted. A request that
+takes a place gets its offer only if the file covers it, or else 503, K4; afterwards offers again.
+Each check is given the program and an empty folder, and returns what it counted.
 """
 import contextlib
 import shutil
 import time
 
-from counters_servers import PROMPT, Asking, Rig, disk, fill, mounted, opened, plain, tmpfs
+from counters_servers import PROMPT, Asking, Rig, disk, fill, halted, mounted, opened, tmpfs
 from hosts import Wrong, called
 
 QUOTA = 10_000
 # A reply that takes a place waits two seconds for the file.
-WAITS = (1.5, 4.0)
+WAITS = (1.5, 8.0)
 # Takes until one is withheld: at most this many are covered ahead of use.
 MOST_AHEAD = QUOTA // 64 + 1
 RECOVERY = 10
@@ -48,7 +48,7 @@ def withheld_while(rig, server, broken):
             is_offer, seconds = rig.take(server)
             if is_offer is not None or seconds > PROMPT:
                 raise Wrong(f"after a reply that was withheld: {is_offer} after {seconds:.1f} s")
-        time.sleep(0.2)
+        halted(server)
     until_offered(rig, server)
     return others.prompt()
 
@@ -139,6 +139,20 @@ def frozen(place):
         called("fsfreeze", "--unfreeze", str(place))
 
 
+def stopped_while(rig, server, frozen):
+    """A stop is answered at once, and the server ends when its file is written."""
+    with frozen:
+        begun = time.monotonic()
+        server.ask("stop")
+        if time.monotonic() - begun > PROMPT:
+            raise Wrong("a stop isn't answered while the device hangs")
+        time.sleep(1)
+        if server.process.poll() is not None:
+            raise Wrong("a server has ended without its file")
+    if server.ends() != 0:
+        raise Wrong(f"a stop ends with {server.process.returncode}: {server.said()}")
+
+
 def hangs(program, folder):
     """The first reply waits two seconds, and gets 503; all later ones get it at once."""
     waits = []
@@ -154,9 +168,10 @@ def hangs(program, folder):
                         is_offer, seconds = rig.take(server)
                         if is_offer is not None or seconds > PROMPT:
                             raise Wrong(f"a second reply: {is_offer} after {seconds:.1f} s")
+                    halted(server)
                 until_offered(rig, server)
                 longest = max(longest, others.prompt())
-            rig.stopped(server)
+            stopped_while(rig, server, frozen(place))
         rig.exact()
     if not all(WAITS[0] <= it <= WAITS[1] for it in waits):
         raise Wrong(f"replies waited {waits}")

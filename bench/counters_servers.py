@@ -41,8 +41,8 @@ class Rig:
 
     def manifest(self, name, *arrays):
         path = self.folder / name
-        apps = [app("takes", "takes.rule", "2.0"), app("plain", "offers.rule", "2.0")]
-        path.write_text(manifest("s", *arrays, *apps))
+        apps = [app(it, "offers.rule", "2.0") for it in ("plain", "spare")]
+        path.write_text(manifest("s", *arrays, app("takes", "takes.rule", "2.0"), *apps))
         return path
 
     def server(self, workers=2):
@@ -117,6 +117,18 @@ def plain(server):
     if status != 200 or OFFERED not in text:
         raise Wrong(f"a request that takes nothing: {status} {text}")
     return time.monotonic() - begun
+
+
+def halted(server):
+    """Halts an app, which needs no file, and resumes it."""
+    begun = time.monotonic()
+    for word, is_offered in (("halt", False), ("resume", True)):
+        reply = server.ask(f"{word} spare")
+        status, text = exchanged(server, "spare")
+        if not reply.startswith("generation ") or (status, OFFERED in text) != (200, is_offered):
+            raise Wrong(f"{word}: {reply}, then {status} {text}")
+    if time.monotonic() - begun > 2 * PROMPT:
+        raise Wrong(f"a halt and a resume take {time.monotonic() - begun:.1f} s")
 
 
 class Asking:
