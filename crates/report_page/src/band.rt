@@ -75,6 +75,7 @@ fn draw_title(page: &mut Document, finding: Finding<'_>) {
         Finding::Errors(n) => {
             page.text(format_args!("Requests with a status of 500 or more: {n}"));
         }
+        Finding::Rowless(n) => page.text(format_args!("Counts of versions without a row: {n}")),
         Finding::Lost(n) => page.text(format_args!("Lines of the log that are lost: {n}")),
         Finding::Unknown(n) => {
             page.text(format_args!("Requests for apps that aren't served: {n}"));
@@ -104,6 +105,9 @@ fn draw_advice(page: &mut Document, finding: Finding<'_>) {
     match finding {
         Finding::Fails(failing) => draw_halt(page, failing.appid),
         Finding::Errors(_) => page.text("The refusals below have their rules. "),
+        Finding::Rowless(_) => {
+            page.text("Only the first 256 have one: another may fail unseen. ")
+        }
         Finding::Lost(n) => page.text(format_args!(
             "Up to {n} requests are in no number of this page."
         )),

@@ -2,7 +2,7 @@
 
 ghost use Rattle.std.specs.Prelude.{◌≡◌};
 
-use report::{AppQuestion, LineQuestion, Question, Report, Tally};
+use report::{AppQuestion, ChartQuestion, LineQuestion, Question, Report, Tally};
 use std::alloc::{AllocError, Global};
 use timeline::{Outcomes, VersionCourse, versions_of_app};
 
@@ -28,6 +28,8 @@ pub(crate) enum Finding<'a> {
     Fails(Failing<'a>),
     /// Requests that got a status from 500 on.
     Errors(u64),
+    /// Counts of versions that have no row, since others occurred first.
+    Rowless(u64),
     /// Lines that the log lost.
     Lost(u64),
     /// Update checks of apps that the server doesn't know.
@@ -40,7 +42,7 @@ impl<'a> Finding<'a> {
     /// Whether an operator has to act.
     pub(crate) fn is_urgent(self) -> bool {
         match self {
-            Finding::Fails(_) | Finding::Errors(_) => true,
+            Finding::Fails(_) | Finding::Errors(_) | Finding::Rowless(_) => true,
             _ => false,
         }
     }
@@ -78,6 +80,7 @@ pub(crate) fn findings_of<'a>(
         }
     }
     note(&mut findings, Finding::Errors(errors_in(report)))?;
+    note(&mut findings, Finding::Rowless(rowless_in(report)))?;
     note(&mut findings, Finding::Lost(report.lost))?;
     note(&mut findings, Finding::Unknown(unknown_in(report)))?;
     note(&mut findings, Finding::Foreign(report.foreign))?;
@@ -95,7 +98,8 @@ fn failing_of<'a>(app: &'a AppCourse, version: &'a VersionCourse) -> Failing<'a>
 // Adds a finding, unless its number is 0.
 fn note<'a>(findings: &mut Vec<Finding<'a>>, finding: Finding<'a>) -> Result<(), AllocError> {
     let empty = match finding {
-        Finding::Errors(n) | Finding::Lost(n) | Finding::Unknown(n) | Finding::Foreign(n) => n == 0,
+        Finding::Errors(n) | Finding::Rowless(n) | Finding::Lost(n) => n == 0,
+        Finding::Unknown(n) | Finding::Foreign(n) => n == 0,
         Finding::Fails(_) => false,
     };
     if !empty {
@@ -115,6 +119,14 @@ fn errors_in(report: &Report) -> u64 {
         }
     }
     errors
+}
+
+// How often versions without a row were counted.
+fn rowless_in(report: &Report) -> u64 {
+    match report.tally(Question::Chart(ChartQuestion::Versions)) {
+        Some(versions) => versions.others(),
+        None => 0,
+    }
 }
 
 fn unknown_in(report: &Report) -> u64 {
