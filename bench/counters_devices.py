@@ -5,10 +5,13 @@ takes a place gets its offer only if the file covers it, or else 503, K4; afterw
 Each check is given the program and an empty folder, and returns what it counted.
 """
 import contextlib
+import random
 import shutil
+import signal
 import time
 
 from counters_servers import PROMPT, Asking, Rig, disk, fill, halted, mounted, opened, tmpfs
+from counters_text import read
 from hosts import Wrong, called
 
 QUOTA = 10_000
@@ -17,6 +20,7 @@ WAITS = (1.5, 8.0)
 # Takes until one is withheld: at most this many are covered ahead of use.
 MOST_AHEAD = QUOTA // 64 + 1
 RECOVERY = 10
+CUTS = 40
 
 
 def until_withheld(rig, server):
@@ -179,9 +183,33 @@ def hangs(program, folder):
     return f"{said} time after {max(waits):.1f} s, others within {longest:.2f} s"
 
 
+def power_cuts(program, folder):
+    """The device's blocks as they are at random moments, and so after a loss of power. The server
+    is stopped meanwhile, so that they are of one moment."""
+    image, copy, spared = folder / "image", folder / "copy", []
+    with disk(folder / "disk") as place:
+        rig = Rig(program, folder, 100 * QUOTA, place)
+        with opened(rig.server()) as server:
+            for _ in range(CUTS):
+                for _ in range(random.randrange(40)):
+                    rig.take(server)
+                server.process.send_signal(signal.SIGSTOP)
+                shutil.copyfile(image, copy)
+                server.process.send_signal(signal.SIGCONT)
+                with mounted(folder / "found", "-o", "loop", str(copy), exist_ok=True) as found:
+                    kept = read((found / "counters").read_bytes())
+                spared.append(kept.values.get(("q", 0), 0) - rig.tally.offers)
+            rig.stopped(server)
+        rig.exact()
+    if min(spared) < 0:
+        raise Wrong(f"after a loss of power the file lacks {-min(spared)} offers")
+    return f"{CUTS} moments, {rig.tally.offers} offers, {max(spared)} places ahead at most"
+
+
 DEVICES = {
     "a full disk": full_disk,
     "a read-only folder": read_only_folder,
     "a folder that is removed": folder_gone,
     "a device that hangs": hangs,
+    "a loss of power": power_cuts,
 }
