@@ -150,7 +150,7 @@ counters_back c h lie number =
     ∙ arrays_read c.arrays h.names h.directory zeros (lines ++ ending ∷ [] ∷ [])
     (Ok (record { arrays = c.arrays; values = last }))
     (longer lines (ending ∷ [] ∷ []) (omega arith))
-    (λ number. all_read c.arrays h.names h.directory lie c.values last h.cells
+    (λ number. all_read c.arrays h.names h.directory lie c.values last h.cells h.counted
     (count_kept c.arrays c.values) (kept_of c.arrays c.values) c.arrays [] refl zeros
     (at_first c.arrays c.values) number)
     [] c.arrays refl number
@@ -169,7 +169,7 @@ rest_back was_stopped halted (a ∷ arrays) values out read number =
     ap (with_counters was_stopped halted) (read number)
 
 pub reads_back : ArraysLieApart → ReadsBack
-reads_back lie k texts h =
+reads_back lie k texts can h =
     let c = k.counters in
     let rest = counter_lines c ++ ending ∷ [] in
     let kept = Ok (record { arrays = c.arrays; values = counted c.arrays c.values }) in
@@ -180,4 +180,4 @@ reads_back lie k texts h =
     (append_assoc (map halted_line k.halted) rest ([] ∷ []))
     ∙ halted_read k.was_stopped (rest ++ [] ∷ []) (with_counters k.was_stopped k.halted kept)
     k.halted (rest_back k.was_stopped k.halted c.arrays c.values kept (counters_back c h lie))
-    k.halted [] texts refl 3
+    k.halted [] texts can refl 3

@@ -3,18 +3,19 @@ use Rattle.std.proofs.Common.{◌≡◌, ℕ, zero, suc, ◌+◌, ◌<◌, ◌�
 use Rattle.std.proofs.Common.{◌∷◌, ◌++◌, length, refl, sym, ap, subst, ◌∙◌, arith}
 use Rattle.std.proofs.Common.{append_assoc, Result, Ok, get_or}
 use Rattle.std.proofs.Common.{inl, inr}
-use Rattle.std.specs.Prelude.{Contains, flat_map, nat_lt, if◌then◌else◌, slice_index}
+use Rattle.std.specs.Prelude.{All, Contains, flat_map, nat_lt, if◌then◌else◌, slice_index}
 use Rattle.std.specs.Prelude.{slice_set}
 use Rattle.std.specs.List.{range_with_len}
 use Rattle.std.proofs.Math.Seq.{get_or-append_seam}
 use Rattle.std.proofs.lemmas.List.{length-append, get_or-append-add}
+use Rattle.std.proofs.lemmas.List.Elements.{All-contains}
 use Rattle.std.proofs.lemmas.Option.{slice_get_read}
 use Rattle.cells.specs.declared.array.CellArray.{CellArray}
 use Rattle.cells.specs.Apart.{ArraysLieApart}
 use Rattle.cells.specs.Arrays.{HasCell}
 use Rattle.cells.specs.Directory.{IsDirectory}
 use Rattle.cells.specs.Events.{limit, AreCells}
-use Rattle.counters_file.specs.Lines.{Counters, counters, counter_line}
+use Rattle.counters_file.specs.Lines.{Counters, CanCount, can_count, counters, counter_line}
 use Rattle.counters_file.specs.Text.{ending, counters_from}
 use Rattle.counters_file.specs.Text.{lines_of_counter, lines_of_array}
 use Rattle.counters_file.proofs.ArraysBack.{one_more, longer}
@@ -40,7 +41,7 @@ small_value c v h = at (nat_lt c 4096) h
     at false h = omega (arith, h)
 
 module _ (done : List CellArray) (a : CellArray) (rest : List CellArray) (at : IsPlaced done a)
-    (values last : List ℕ) (cells : AreCells values) (later : ℕ → Type 0)
+    (values last : List ℕ) (cells : AreCells values) (can : CanCount values a) (later : ℕ → Type 0)
     (same : (c : ℕ) → HasCell a c → slice_index last c ≡ slice_index values c)
     (apart : (c : ℕ) → HasCell a c → later c → ⊥) (tail : List (List ℕ))
     (long : 2 ≤ length tail) (out : Result Counters ℕ)
@@ -101,7 +102,8 @@ module _ (done : List CellArray) (a : CellArray) (rest : List CellArray) (at : I
           (counters (done ++ a ∷ rest) (slice_set now (a.base + i) (suc x))) out
           (longer (lines_from values a (i + 1) n) tail long)
           (counter_back done a rest i (suc x) now at index (low_cell done a at (a.base + i) has)
-          fits (small_value (a.base + i) (suc x) fits) zero_now)
+          fits (small_value (a.base + i) (suc x) fits)
+          (subst (λ (v : ℕ). can_count a.quota v ≡ true) is (can i index)) zero_now)
           (others (slice_set now (a.base + i) (suc x))
           (subst (λ (v : ℕ). AreFilled last (slice_set now (a.base + i) v)
           (FromOn (a.base + (i + 1)) (a.base + a.length) later)) (same (a.base + i) has ∙ is) set)
@@ -158,7 +160,7 @@ module _ (done : List CellArray) (a : CellArray) (rest : List CellArray)
 
 module _ (all : List CellArray) (names : AreNamed all) (known : IsDirectory all)
     (lie : ArraysLieApart) (values last : List ℕ) (cells : AreCells values)
-    (count : length last ≡ 8192)
+    (can : All (CanCount values) all) (count : length last ≡ 8192)
     (same : (c : ℕ) → c < 8192 → IsOf all c → slice_index last c ≡ slice_index values c) where
   pub all_read : (rest done : List CellArray) → all ≡ done ++ rest → (now : List ℕ)
       → AreFilled last now (IsOf rest) → (number : ℕ)
@@ -181,7 +183,7 @@ module _ (all : List CellArray) (names : AreNamed all) (known : IsDirectory all)
       (append_assoc (lines_of_array values a) lines (ending ∷ [] ∷ []))
       ∙ subst (λ (l : List CellArray). counters_from number (lines_of_array values a ++ tail)
       (counters l now) ≡ Ok (counters all last)) (sym is)
-      (counters_read done a rest at values last cells (IsOf rest)
+      (counters_read done a rest at values last cells can_a (IsOf rest)
       (λ c has. same c (low_cell done a at c has) (of_all c has))
       (rest_apart done a rest known_there lie) tail (longer lines (ending ∷ [] ∷ []) (omega arith))
       (Ok (counters all last))
@@ -192,13 +194,16 @@ module _ (all : List CellArray) (names : AreNamed all) (known : IsDirectory all)
       (first_or_rest done a rest known_there lie) (of_either done a rest known_there lie) filled)
       number)
     where
+      there : Contains all a
+      there =
+          subst (λ (l : List CellArray). Contains l a) (sym is)
+          (there_a done a rest (subst IsDirectory is known) lie)
+
+      can_a : CanCount values a
+      can_a = All-contains (CanCount values) all a can there
+
       of_all : (c : ℕ) → HasCell a c → IsOf all c
-      of_all c has = (
-        a,
-        subst (λ (l : List CellArray). Contains l a) (sym is)
-            (there_a done a rest (subst IsDirectory is known) lie),
-        has,
-      )
+      of_all c has = (a, there, has)
 
       after_it : ((now : List ℕ) → AreFilled last now (IsOf rest) → (number : ℕ)
           → counters_from number (flat_map (lines_of_array values) rest ++ ending ∷ [] ∷ [])

@@ -1,9 +1,9 @@
 -- Lines of halted apps that are read one after another.
-use Rattle.std.proofs.Common.{◌≡◌, ℕ, ◌+◌, ◌-◌, ◌<◌, ◌≤◌, ◌^◌, List, [], ◌∷◌, ◌++◌, length, ap}
-use Rattle.std.proofs.Common.{◌∙◌, Bool, arith, Result, Ok, Err, Option, Some, None, sym, subst}
+use Rattle.std.proofs.Common.{◌≡◌, ℕ, ◌+◌, ◌-◌, ◌<◌, ◌≤◌, List, [], ◌∷◌, ◌++◌, length, ap}
+use Rattle.std.proofs.Common.{◌∙◌, Bool, arith, Err, Option, Some, None, sym}
 use Rattle.std.proofs.Common.{map, take, drop, get_or, refl}
 use Rattle.counters_file.specs.Halts.{halted_in}
-use Rattle.counters_file.specs.Text.{Contents, contents_from, counters_from, nothing}
+use Rattle.counters_file.specs.Text.{contents_from, counters_from, nothing}
 use Rattle.counters_file.specs.Text.{when_halted, with_counters}
 use Rattle.counters_file.proofs.ReadOn.{first_is}
 

@@ -25,7 +25,7 @@ use Rattle.declarations.specs.Texts.{width_text}
 use Rattle.counters_file.specs.Lines.{Counters, is_blank, array_word, quota_field, array_line}
 use Rattle.counters_file.specs.Lines.{counter_line, has_name, array_declared, array_added}
 use Rattle.counters_file.specs.Lines.{with_arrays, with_values, with_fields, with_line, value_set}
-use Rattle.counters_file.specs.Lines.{number_in, cell_set, counter_set}
+use Rattle.counters_file.specs.Lines.{number_in, can_count, cell_set, counter_set}
 use Rattle.counters_file.proofs.Numbers.{number_back, digits_without, not_blank}
 use Rattle.counters_file.proofs.Names.{name_without}
 use Rattle.counters_file.proofs.Placed.{IsPlaced}
@@ -197,13 +197,14 @@ set_back c v values within fits zero =
 -- the line of a counter that is 0 so far sets it
 pub counter_back : (done : List CellArray) (a : CellArray) (rest : List CellArray) (i v : ℕ)
     (values : List ℕ) → IsPlaced done a → i < a.length → a.base + i < 8192
-    → v < limit (a.base + i) → v < 2 ^ 64 → slice_index values (a.base + i) ≡ 0
+    → v < limit (a.base + i) → v < 2 ^ 64 → can_count a.quota v ≡ true
+    → slice_index values (a.base + i) ≡ 0
     → with_line (counter_line a i v) (record { arrays = done ++ a ∷ rest; values = values })
     ≡ Some (record {
       arrays = done ++ a ∷ rest;
       values = slice_set values (a.base + i) v;
     })
-counter_back done a rest i v values is index within fits small zero =
+counter_back done a rest i v values is index within fits small can zero =
     let size = is.ranges.to in
     let low : i < 2 ^ 64 = omega (arith, index, size) in
     let c : Counters = record { arrays = done ++ a ∷ rest; values = values } in
@@ -214,7 +215,8 @@ counter_back done a rest i v values is index within fits small zero =
     ∙ ap (λ (w : Option ℕ). set (Some i) w) (number_is v small)
     ∙ ap (λ (o : Option CellArray). with_values (option_and_then (value_set i v values) o) c)
     (found_after done a rest is.new)
-    ∙ ap (λ (b : Bool). with_values (if b then cell_set (a.base + i) v values else None) c)
-    (lt-ltb i a.length index)
+    ∙ ap (λ (b : Bool). with_values (if b && can_count a.quota v
+    then cell_set (a.base + i) v values else None) c) (lt-ltb i a.length index)
+    ∙ ap (λ (b : Bool). with_values (if b then cell_set (a.base + i) v values else None) c) can
     ∙ ap (λ (o : Option (List ℕ)). with_values o c)
     (set_back (a.base + i) v values within fits zero)

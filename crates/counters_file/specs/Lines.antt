@@ -1,5 +1,6 @@
 -- The lines of a file of counters, and what each adds to the arrays and values before it.
-use Rattle.std.specs.Prelude.{ℕ, ◌+◌, ◌-◌, ◌^◌, ◌==◌, nat_lt, nat_le, Bool, ◌&&◌, not}
+use Rattle.std.specs.Prelude.{ℕ, ◌+◌, ◌-◌, ◌^◌, ◌<◌, ◌==◌, nat_lt, nat_le, Bool, true, ◌&&◌, not}
+use Rattle.std.specs.Prelude.{IsTrue}
 use Rattle.std.specs.Prelude.{if◌then◌else◌, List, [], ◌∷◌, ◌++◌, codes}
 use Rattle.std.specs.Prelude.{slice_index, slice_set}
 use Rattle.std.specs.Prelude.{Option, Some, None, option_and_then, option_map}
@@ -74,10 +75,21 @@ abbrev pub cell_set : (cell value : ℕ) → List ℕ → Option (List ℕ)
 cell_set cell value values =
     if takes_value cell value values then Some (slice_set values cell value) else None
 
--- the array has a counter with this index
+-- a counter with a quota has less than 2^63, so that additions don't overflow it
+abbrev pub can_count : (quota : Option ℕ) → (value : ℕ) → Bool
+can_count None value = true
+can_count (Some quota) value = nat_lt value (2 ^ 63)
+
+-- the array has a counter with this index, which can have the value
 abbrev pub value_set : (index value : ℕ) → List ℕ → CellArray → Option (List ℕ)
 value_set index value values a =
-    if nat_lt index a.length then cell_set (a.base + index) value values else None
+    if nat_lt index a.length && can_count a.quota value then cell_set (a.base + index) value values
+    else None
+
+-- the array's counters can have these values
+abbrev pub CanCount : (values : List ℕ) → CellArray → Type 0
+CanCount values a = (index : ℕ) → index < a.length
+    → IsTrue (can_count a.quota (slice_index values (a.base + index)))
 
 abbrev pub counter_set : List CellArray → (name : List ℕ) → (index value : Option ℕ) → List ℕ
     → Option (List ℕ)

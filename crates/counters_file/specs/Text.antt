@@ -10,8 +10,9 @@ use Rattle.cells.specs.declared.array.CellArray.{CellArray}
 use Rattle.cells.specs.Directory.{IsDirectory}
 use Rattle.cells.specs.Events.{AreCells}
 use Rattle.cells.specs.Names.{IsName}
-use Rattle.counters_file.specs.Halts.{IsText, halted_in, halted_line}
-use Rattle.counters_file.specs.Lines.{Counters, counters, array_line, counter_line, with_line}
+use Rattle.counters_file.specs.Halts.{IsText, CanBeHalted, halted_in, halted_line}
+use Rattle.counters_file.specs.Lines.{Counters, CanCount, counters, array_line, counter_line}
+use Rattle.counters_file.specs.Lines.{with_line}
 use Rattle.counters_file.specs.Lines.{is_line_feed}
 
 -- what a file says: whether its server was stopped, and the appids of the halted apps and the
@@ -20,6 +21,14 @@ pub record Contents : Type 0 where
   pub was_stopped : Bool
   pub halted : List (List ℕ)
   pub counters : Counters
+
+abbrev pub contents : (was_stopped : Bool) → (halted : List (List ℕ)) → List CellArray
+    → (values : List ℕ) → Contents
+contents was_stopped halted arrays values = record {
+  was_stopped = was_stopped;
+  halted = halted;
+  counters = counters arrays values;
+}
 
 abbrev pub heading : List ℕ
 heading = codes "rollout counters 1"
@@ -162,9 +171,10 @@ pub record AreCounters (c : Counters) : Type 0 where
   pub names : All (λ a. IsName a.name) c.arrays
   pub directory : IsDirectory c.arrays
   pub cells : AreCells c.values
+  pub counted : All (CanCount c.values) c.arrays
 
 -- what is read is what was written
 abbrev pub ReadsBack : Type 0
 ReadsBack =
-    (k : Contents) → All IsText k.halted → AreCounters k.counters
+    (k : Contents) → All IsText k.halted → All CanBeHalted k.halted → AreCounters k.counters
     → contents_in (file_text k) ≡ Ok (kept k)

@@ -5,7 +5,7 @@ ghost use Rattle.counters_file.specs.Faults.{fault_text};
 
 use std::fmt;
 
-/// The fault, with its code K1 to K5 as it is printed.
+/// The fault, with its code as it is printed.
 #[derive(Clone, Copy, Debug, PartialEq, Eq)]
 pub enum CountersFault {
     /// K1: another server has the file.
@@ -16,8 +16,6 @@ pub enum CountersFault {
     Damaged { line: usize },
     /// K4: it can't be written, or it can't be locked.
     Store,
-    /// K5: the server that wrote it wasn't stopped.
-    Crashed,
     /// B4: an allocation failed.
     Memory,
 }
@@ -31,7 +29,6 @@ impl fmt::Display for CountersFault {
             CountersFault::File => f.write_str("K2 File"),
             CountersFault::Damaged { line } => write!(f, "K3 Damaged at line {line}"),
             CountersFault::Store => f.write_str("K4 Store"),
-            CountersFault::Crashed => f.write_str("K5 Crashed"),
             CountersFault::Memory => f.write_str("B4 Memory"),
         }
     }

@@ -5,8 +5,8 @@ use crate::kept_file::KeptFile;
 use bounded_files::{FileFault, IfDenied, Links, read_file, replace_file};
 use lexing::decimal_within;
 use std::alloc::Global;
-use std::fs::{File, OpenFile, OpenOptions, TryLockError};
-use std::io::{self, ErrorKind, Write};
+use std::fs::{self, File, OpenFile, OpenOptions, TryLockError};
+use std::io::{self, Error, ErrorKind, Write};
 use std::os::unix::fs::OpenOptionsExt;
 use std::rt::Files;
 use std::str;
@@ -16,6 +16,9 @@ const MOST_BYTES: u32 = 0x10_0000;
 
 /// The most bytes of a file with the number of a process.
 const MOST_STAT: u32 = 4096;
+
+/// How many names a replacement of a file tries for its new file.
+const MOST_NAMES: u32 = 100;
 
 /// A file of a device, about whose bytes nothing is known. It is locked until it is dropped.
 #[derive(Drop)]
@@ -27,9 +30,10 @@ pub struct DeviceFile<'a, R> {
 
 impl<'a, R: Files<File = File> + AllocGlobal> DeviceFile<'a, R> {
     /// The file at a path, if no other process has locked it: the system's lock is on `PATH.lock`,
-    /// which is made if it isn't there, and which stays. It gets the number of this process.
-    /// Returns K1 if another process has it, K4 if it can't be made or locked, and B4 if an
-    /// allocation fails.
+    /// which is made if it isn't there, and which stays. It gets the number of this process. New
+    /// files that an earlier process left there, since a crash cut off a commit, are removed.
+    /// Returns K1 if another process has the lock; K4 if it can't be made or locked, or isn't a
+    /// regular file; and B4 if an allocation fails.
     // open: that the system's lock holds: rows and `bench/outside`.
     pub fn lock(rt: &'a R, path: &str) -> Result<DeviceFile<'a, R>, CountersFault> {
         let Ok(own) = String::from_str(rt.alloc(), path) else {
@@ -41,6 +45,7 @@ impl<'a, R: Files<File = File> + AllocGlobal> DeviceFile<'a, R> {
         match lock.try_lock() {
             Ok(()) => {
                 let _signed = sign(rt, &lock);
+                remove_leftovers(rt, path);
                 Ok(DeviceFile {
                     rt,
                     path: own,
@@ -55,9 +60,31 @@ impl<'a, R: Files<File = File> + AllocGlobal> DeviceFile<'a, R> {
 
 fn open_lock<R: Files<File = File> + AllocGlobal>(rt: &R, path: &str) -> io::Result<File> {
     let name = format!(in rt.alloc(); "{path}.lock")?;
+    // A link is not followed, and a FIFO is not waited for.
+    if is_other_kind(rt, name.as_str()) {
+        return Err(Error::from(ErrorKind::InvalidInput));
+    }
     let mut options = OpenOptions::new();
     options.write(true).create(true).mode(0o600);
     options.open(rt, name.as_str())
+}
+
+// Whether there is something at a path which isn't a regular file.
+fn is_other_kind<R: Files>(rt: &R, path: &str) -> bool {
+    match fs::symlink_metadata(rt, path) {
+        Ok(found) => !found.is_file(),
+        Err(_) => false,
+    }
+}
+
+// Removes what replacements of the file left that a crash cut off: each made its new file at the
+// path followed by a number below 100 and `.new`.
+fn remove_leftovers<R: Files + AllocGlobal>(rt: &R, path: &str) {
+    for number in 0..MOST_NAMES {
+        if let Ok(name) = format!(in rt.alloc(); "{path}.{number}.new") {
+            let _gone = fs::remove_file(rt, name.as_str());
+        }
+    }
 }
 
 // Writes the number of this process, as the system has it, into the file of the lock.

@@ -8,6 +8,7 @@ ghost use Rattle.cells.specs.Events.{AreCells, limit};
 ghost use Rattle.declarations.specs.Spec.{of_fields};
 ghost use Rattle.counters_file.specs.Lines as specs;
 
+use crate::counting::can_count;
 use cells::{CellArray, CellNo, CellsFault, Directory};
 use declarations::{ArrayDeclaration, SpecFault, parts_of, read_fields};
 use lexing::decimal_within;
@@ -167,7 +168,7 @@ fn set_value(array: &CellArray, index: u64, value: u64, values: &mut [u64]) -> b
         ≡ (if result then Some values.new else None) }
     ensures cells { AreCells values.new }
 {
-    if index >= array.length as u64 {
+    if index >= array.length as u64 || !can_count(array.quota, value) {
         return false;
     }
     let cell = array.base as usize + index as usize;

@@ -21,6 +21,7 @@
 
 mod contents;
 mod counters_fault;
+mod counting;
 mod device_file;
 mod fields;
 mod halted;

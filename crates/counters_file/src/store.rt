@@ -1,14 +1,15 @@
 //! Reading the counters with which a server opens, and committing those that it has.
 
-ghost use Rattle.std.specs.Prelude.{◌≡◌, IfOk, IfSome, Ok, OnOk, map, string_bytes};
+ghost use Rattle.std.specs.Prelude.{◌≡◌, IfOk, IfSome, Ok, OnErr, OnOk, map, string_bytes};
 ghost use Rattle.cells.specs.Events.{AreCells};
-ghost use Rattle.counters_file.specs.Kept.{IsFoundIn, Keeps};
-ghost use Rattle.counters_file.specs.Lines.{counters};
-ghost use Rattle.counters_file.specs.Text.{contents_in};
+ghost use Rattle.counters_file.specs.Kept.{IsFoundIn, IsWhole, Keeps};
+ghost use Rattle.counters_file.specs.Text.{contents, contents_in};
 
 use crate::contents::{Contents, ReadFault};
 use crate::counters_fault::CountersFault;
+use crate::counting::all_can_count;
 use crate::device_file::read_bytes;
+use crate::halted::all_can_be_halted;
 use crate::kept_file::KeptFile;
 use crate::laws::reads_back;
 use crate::reading::read_contents;
@@ -83,8 +84,10 @@ fn wrong_after(bytes: &[u8]) -> CountersFault {
 }
 
 /// Replaces a file by one with these halted apps, these arrays and the values of their cells. It
-/// says whether the server was stopped. Returns K4 if it can't be written, and B4 if an allocation
-/// fails.
+/// says whether the server was stopped. Returns K4 if it can't be written, or if it would be K3 to
+/// read: if an app with such an appid can't be halted, or a counter with a quota has 2^63 or more.
+/// Also if the file would have over 1 MiB. All arrays and counters, and 60 halted apps with the
+/// longest appids, always fit. Returns B4 if an allocation fails.
 // open: when these are returned.
 pub fn commit<F: KeptFile>(
     alloc: Global,
@@ -94,13 +97,18 @@ pub fn commit<F: KeptFile>(
     directory: &Directory,
     values: &[u64],
 ) -> Result<(), CountersFault>
-    ensures { let counters = counters directory.now values.now in
-        let halted = map string_bytes halted.now in
-        AreCells values.now → OnOk result (IfSome (F.known file.old) (λ _. IfSome (F.known file.new)
-        (Keeps (record { was_stopped = was_stopped; halted = halted; counters = counters })))) }
+    ensures stored { let k = contents was_stopped (map string_bytes halted.now) directory.now
+        values.now in AreCells values.now → OnOk result (IfSome (F.known file.old)
+        (λ _. IfSome (F.known file.new) (Keeps k))) }
+    ensures whole { let k = contents was_stopped (map string_bytes halted.now) directory.now
+        values.now in AreCells values.now → OnErr result (IsWhole k (F.known file.old)
+        (F.known file.new)) }
 {
     reads_back();
-    let _arrays = directory.arrays();
+    let arrays = directory.arrays();
+    if !all_can_be_halted(halted) || !all_can_count(arrays, values) {
+        return Err(CountersFault::Store);
+    }
     let Ok(text) = file_text(alloc, was_stopped, halted, directory, values) else {
         return Err(CountersFault::Memory);
     };

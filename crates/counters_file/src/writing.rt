@@ -107,8 +107,8 @@ fn push_counters_of(text: &mut String, array: &CellArray, values: &[u64]) -> Res
     Ok(())
 }
 
-// The value of a cell of an array.
-fn value_at(values: &[u64], base: u16, index: u16) -> u64
+/// The value of a cell of an array.
+pub(crate) fn value_at(values: &[u64], base: u16, index: u16) -> u64
     ensures { result ≡ slice_index values.now (base + index) }
 {
     match values.get(base as usize + index as usize) {

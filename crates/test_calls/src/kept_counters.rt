@@ -11,7 +11,7 @@ use std::test::Fail;
 const TEXT: &str = "\
 rollout counters 1
 stopped
-halted caf%C3%A9%20%25%0A
+halted caf%C3%A9%20%25%09
 halted x
 array early 64 2 500
 array seen 32 1
@@ -51,7 +51,7 @@ fn has_them<F: KeptFile>(
         return Ok(false);
     };
     let is_escaped = match contents.halted.first() {
-        Some(appid) => appid.as_str() == "caf\u{e9} %\n",
+        Some(appid) => appid.as_str() == "caf\u{e9} %\t",
         None => false,
     };
     let same_end = contents.was_stopped == was_stopped;

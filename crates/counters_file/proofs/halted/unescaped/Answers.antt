@@ -13,8 +13,8 @@ returns-in-Ok c =
     c.in_ok-append_to.ensures.ok
     ∙ ap (λ (bs : List ℕ). bs ++ decoded_bytes c.percent_decode.result) c.new-bytes.ensures.items
     ∙ c.percent_decode.ensures.bytes in
-    text_found (percent_decode c.args.escaped.now) c.in-Ok.text
-    (ap (λ (v : Vec ℕ Global). v.items) c.in-Ok.ensures.ok ∙ all)
+    text_found (percent_decode c.args.escaped.now) c.in-Ok.text _
+    (ap (λ (v : Vec ℕ Global). v.items) c.in-Ok.ensures.ok ∙ all) c.if_can_be_halted.ensures
 
 pub returns : goal.returns
 returns c =
