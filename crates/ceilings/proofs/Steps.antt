@@ -3,7 +3,6 @@ use Rattle.std.proofs.Common.{◌≡◌, ◌≢◌, ℕ, zero, suc, ◌<◌, ◌
 use Rattle.std.proofs.Common.{◌++◌, length, set, refl, sym, ap, ◌∙◌, subst, ⊎_elim, arith, append-nil}
 use Rattle.std.proofs.Common.{append_assoc, length-set, get_or-set_same, get_or-set_other}
 use Rattle.std.specs.Prelude.{◌==◌, if◌then◌else◌, slice_index, slice_set}
-use Rattle.std.proofs.lemmas.Bool.{false≢true}
 use Rattle.std.proofs.lemmas.Bool.Decides.{nat_tests}
 use Rattle.std.proofs.lemmas.List.{set-get_or}
 use mathlib.Core.List.{IsPrefix}
@@ -11,20 +10,20 @@ use mathlib.Core.Logic.{dite, ◌⊎◌}
 use mathlib.Core.Option.{some, some-ne-none, some-injective}
 use native.Mathlib.Decide.{ℕ_discrete}
 use lib.ListN.{get_elem?}
-use Rattle.atomic_table.specs.Table.{State, Me, Allows, Splits, keeps, opening}
-use Rattle.atomic_table.proofs.Lists.{at_set, at_snoc, set_again}
+use Rattle.atomic_table.specs.Table.{State, Me, Allows, keeps, opening}
+use Rattle.atomic_table.proofs.Lists.{at_set}
 use Rattle.ceilings.specs.declared.rule.Known.{Known}
-use Rattle.ceilings.specs.declared.rule.Stored.{Stored}
-use Rattle.ceilings.specs.Rule.{stored_as, writer_of, reader_of, stored_in, Looks, Raises, HasLog}
-use Rattle.ceilings.specs.Rule.{StoredGrows}
+use Rattle.ceilings.specs.declared.rule.Raised.{Raised}
+use Rattle.ceilings.specs.Rule.{raised_as, writer_of, raised_in, Looks, Raises, KnowsSome, HasLog}
+use Rattle.ceilings.specs.Rule.{CeilingsGrow}
 
--- ---- numbers that were stored
+-- ---- raises
 
 one_more : (a b : ℕ) (same : Bool) → b ≤ (if same then max a b else b)
 one_more a b true = omega arith
 one_more a b false = omega arith
 
-longer : (c : ℕ) (log more : List Stored) → stored_in c log ≤ stored_in c (log ++ more)
+longer : (c : ℕ) (log more : List Raised) → raised_in c log ≤ raised_in c (log ++ more)
 longer c [] more = omega arith
 longer c (y ∷ log) more = step (y.cell == c) y.number (longer c log more)
   where
@@ -33,27 +32,38 @@ longer c (y ∷ log) more = step (y.cell == c) y.number (longer c log more)
     step true n le = omega (arith, le)
     step false n le = le
 
-pub grows : StoredGrows
-grows c old new h = subst (λ (l : List Stored). stored_in c old ≤ stored_in c l) h.1 (longer c old h.0)
+pub grows : CeilingsGrow
+grows c old new h = subst (λ (l : List Raised). raised_in c old ≤ raised_in c l) h.1 (longer c old h.0)
 
 itself : (c : ℕ) → (c == c) ≡ true
 itself c = grind (arith, nat_tests)
 
-stored_last : (c n : ℕ) (log : List Stored) → n ≤ stored_in c (log ++ stored_as c n ∷ [])
-stored_last c n [] = subst (λ (b : Bool). n ≤ (if b then max n 0 else 0)) (sym (itself c)) (omega arith)
-stored_last c n (y ∷ log) =
-    let rest = stored_last c n log in
-    let more = one_more y.number (stored_in c (log ++ stored_as c n ∷ [])) (y.cell == c) in
+raised_last : (c n : ℕ) (log : List Raised) → n ≤ raised_in c (log ++ raised_as c n ∷ [])
+raised_last c n [] = subst (λ (b : Bool). n ≤ (if b then max n 0 else 0)) (sym (itself c)) (omega arith)
+raised_last c n (y ∷ log) =
+    let rest = raised_last c n log in
+    let more = one_more y.number (raised_in c (log ++ raised_as c n ∷ [])) (y.cell == c) in
     omega (arith, rest, more)
 
 -- ---- prefixes
 
-prefix_self : (log : List Stored) → IsPrefix log log
+prefix_self : (log : List Raised) → IsPrefix log log
 prefix_self log = ([], append-nil log)
 
-prefix_longer : (v log : List Stored) (x : Stored) → IsPrefix v log → IsPrefix v (log ++ x ∷ [])
+prefix_longer : (v log : List Raised) (x : Raised) → IsPrefix v log → IsPrefix v (log ++ x ∷ [])
 prefix_longer v log x h =
-    (h.0 ++ x ∷ [], sym (append_assoc v h.0 (x ∷ [])) ∙ ap (λ (l : List Stored). l ++ x ∷ []) h.1)
+    (h.0 ++ x ∷ [], sym (append_assoc v h.0 (x ∷ [])) ∙ ap (λ (l : List Raised). l ++ x ∷ []) h.1)
+
+longer_still : (v : Known) (log : List Raised) (x : Raised) → KnowsSome log v
+    → KnowsSome (log ++ x ∷ []) v
+longer_still v log x knows = record {
+  raised = prefix_longer v.raised log x knows.raised;
+  joined = prefix_longer v.joined log x knows.joined;
+}
+
+pub knows_nothing : (is_writer : Bool) (log : List Raised)
+    → KnowsSome log (record { is_writer = is_writer; raised = []; joined = [] })
+knows_nothing is_writer log = record { raised = (log, refl); joined = (log, refl) }
 
 -- ---- the rule at first
 
@@ -63,8 +73,8 @@ begins n ws count zeros = record {
   log = [];
   words = count;
   below = λ c lt. let z = zeros c in omega (arith, z);
-  seen = λ id v e. subst (λ (k : Known). IsPrefix k.stored []) (here id v e) (prefix_self []);
-  whole = λ id v e is. ap (λ (k : Known). k.stored) (sym (here id v e));
+  seen = λ id v e. subst (KnowsSome []) (here id v e) (knows_nothing true []);
+  whole = λ id v e is. ap (λ (k : Known). k.raised) (sym (here id v e));
   one = λ id other v w e f is too. first id v e ∙ sym (first other w f);
 }
   where
@@ -93,7 +103,7 @@ writer_before views id old new at same j v e is =
     (λ (t : (j ≢ id) × (get_elem? views j ≡ some v)). (v, t.1, is))
     (at_set views id j new v e)
 
-one_still : {S : Type 0} (n id : ℕ) (s : State S Known) (old new : Known) → HasLog n s
+pub one_still : {S : Type 0} (n id : ℕ) (s : State S Known) (old new : Known) → HasLog n s
     → get_elem? s.views id ≡ some old → new.is_writer ≡ old.is_writer
     → (j k : ℕ) (v w : Known) → get_elem? (set s.views id new) j ≡ some v
     → get_elem? (set s.views id new) k ≡ some w → v.is_writer ≡ true → w.is_writer ≡ true → j ≡ k
@@ -107,7 +117,11 @@ one_still n id s old new rule at same j k v w e f is too =
 pub looks : {S : Type 0} (n slots id : ℕ) (me : Me S Known) (c : ℕ) → c < n
     → Allows (HasLog n) slots id me c (λ k. k) (Looks c me)
 looks {S} n slots id me c lt s rule homes at small =
-    let new : Known = record { is_writer = me.0.is_writer; stored = rule.log } in
+    let new : Known = record {
+      is_writer = me.0.is_writer;
+      raised = rule.log;
+      joined = me.0.joined;
+    } in
     let words : slice_set s.words c (slice_index s.words c) ≡ s.words = set-get_or s.words c 0 in (
       new,
       keeps,
@@ -115,54 +129,58 @@ looks {S} n slots id me c lt s rule homes at small =
       record {
         log = rule.log;
         words = ap (λ (l : List ℕ). length l) words ∙ rule.words;
-        below = λ k less. subst (λ (l : List ℕ). slice_index l k ≤ stored_in k rule.log) (sym words)
+        below = λ k less. subst (λ (l : List ℕ). slice_index l k ≤ raised_in k rule.log) (sym words)
             (rule.below k less);
         seen = λ j v e. ⊎_elim
             (λ (t : (j ≡ id) × (new ≡ v)).
-            subst (λ (u : Known). IsPrefix u.stored rule.log) t.1 (prefix_self rule.log))
+            subst (KnowsSome rule.log) t.1 (record {
+              raised = prefix_self rule.log;
+              joined = (rule.seen id me.0 at).joined;
+            }))
             (λ (t : (j ≢ id) × (get_elem? s.views j ≡ some v)). rule.seen j v t.1)
             (at_set s.views id j new v e);
         whole = λ j v e is. ⊎_elim
-            (λ (t : (j ≡ id) × (new ≡ v)). ap (λ (u : Known). u.stored) (sym t.1))
+            (λ (t : (j ≡ id) × (new ≡ v)). ap (λ (u : Known). u.raised) (sym t.1))
             (λ (t : (j ≢ id) × (get_elem? s.views j ≡ some v)). rule.whole j v t.1 is)
             (at_set s.views id j new v e);
         one = one_still n id s me.0 new rule at refl;
       },
-      (rule.seen id me.0 at, rule.below c lt, refl, refl),
+      ((rule.seen id me.0 at).raised, rule.below c lt, refl, refl),
     )
 
 -- ---- a raise
 
-raised_below : (n c number : ℕ) (words : List ℕ) (log : List Stored) → length words ≡ n → c < n
-    → ((k : ℕ) → k < n → slice_index words k ≤ stored_in k log) → (k : ℕ) → k < n
-    → slice_index (slice_set words c number) k ≤ stored_in k (log ++ stored_as c number ∷ [])
+raised_below : (n c number : ℕ) (words : List ℕ) (log : List Raised) → length words ≡ n → c < n
+    → ((k : ℕ) → k < n → slice_index words k ≤ raised_in k log) → (k : ℕ) → k < n
+    → slice_index (slice_set words c number) k ≤ raised_in k (log ++ raised_as c number ∷ [])
 raised_below n c number words log count lt below k less =
     dite (ℕ_discrete k c)
     (λ (same : k ≡ c).
-    let P : ℕ → Type 0 = λ (j : ℕ). slice_index (slice_set words c number) j ≤ stored_in j
-    (log ++ stored_as c number ∷ []) in
+    let P : ℕ → Type 0 = λ (j : ℕ). slice_index (slice_set words c number) j ≤ raised_in j
+    (log ++ raised_as c number ∷ []) in
     let here : slice_index (slice_set words c number) c ≡ number =
     get_or-set_same words c number 0 (omega arith) in
-    let most = stored_last c number log in
+    let most = raised_last c number log in
     subst P (sym same) (omega (arith, here, most)))
     (λ (ne : k ≢ c).
     let there : slice_index (slice_set words c number) k ≡ slice_index words k =
     get_or-set_other words c k number 0 ne in
     let was = below k less in
-    let more = longer k log (stored_as c number ∷ []) in
+    let more = longer k log (raised_as c number ∷ []) in
     omega (arith, there, was, more))
 
 pub raises : {S : Type 0} (n slots id : ℕ) (me : Me S Known) (c number : ℕ) → c < n
     → me.0.is_writer ≡ true
     → Allows (HasLog n) slots id me c (λ _. number) (λ _. Raises c me number)
 raises {S} n slots id me c number lt is s rule homes at small =
-    let mine : me.0.stored ≡ rule.log = rule.whole id me.0 at is in
-    let log : List Stored = rule.log ++ stored_as c number ∷ [] in
+    let mine : me.0.raised ≡ rule.log = rule.whole id me.0 at is in
+    let log : List Raised = rule.log ++ raised_as c number ∷ [] in
     let new : Known = record {
       is_writer = me.0.is_writer;
-      stored = me.0.stored ++ stored_as c number ∷ [];
+      raised = me.0.raised ++ raised_as c number ∷ [];
+      joined = me.0.joined;
     } in
-    let same : new.stored ≡ log = ap (λ (l : List Stored). l ++ stored_as c number ∷ []) mine in (
+    let same : new.raised ≡ log = ap (λ (l : List Raised). l ++ raised_as c number ∷ []) mine in (
       new,
       keeps,
       tt,
@@ -172,13 +190,17 @@ raises {S} n slots id me c number lt is s rule homes at small =
         below = raised_below n c number s.words rule.log rule.words lt rule.below;
         seen = λ j v e. ⊎_elim
             (λ (t : (j ≡ id) × (new ≡ v)).
-            subst (λ (u : Known). IsPrefix u.stored log) t.1
-            (subst (λ (l : List Stored). IsPrefix l log) (sym same) (prefix_self log)))
+            subst (KnowsSome log) t.1 (record {
+              raised = subst (λ (l : List Raised). IsPrefix l log) (sym same) (prefix_self log);
+              joined =
+                  prefix_longer me.0.joined rule.log (raised_as c number)
+                  (rule.seen id me.0 at).joined;
+            }))
             (λ (t : (j ≢ id) × (get_elem? s.views j ≡ some v)).
-            prefix_longer v.stored rule.log (stored_as c number) (rule.seen j v t.1))
+            longer_still v rule.log (raised_as c number) (rule.seen j v t.1))
             (at_set s.views id j new v e);
         whole = λ j v e holds. ⊎_elim
-            (λ (t : (j ≡ id) × (new ≡ v)). ap (λ (u : Known). u.stored) (sym t.1) ∙ same)
+            (λ (t : (j ≡ id) × (new ≡ v)). ap (λ (u : Known). u.raised) (sym t.1) ∙ same)
             (λ (t : (j ≢ id) × (get_elem? s.views j ≡ some v)).
             absurd (t.0 (rule.one j id v me.0 t.1 at holds is)))
             (at_set s.views id j new v e);
@@ -186,41 +208,3 @@ raises {S} n slots id me c number lt is s rule homes at small =
       },
       (refl, refl, refl),
     )
-
--- ---- a reader is split off
-
-pub splits : {S : Type 0} (n id : ℕ) (v : Known)
-    → Splits (HasLog {S = S} n) id v v (reader_of v.stored)
-splits {S} n id v s rule at = record {
-  log = rule.log;
-  words = rule.words;
-  below = rule.below;
-  seen = λ j u e. ⊎_elim
-      (λ (t : get_elem? s.views j ≡ some u). rule.seen j u t)
-      (λ (t : reader_of v.stored ≡ u).
-      subst (λ (k : Known). IsPrefix k.stored rule.log) t (rule.seen id v at))
-      (was j u e);
-  whole = λ j u e is. ⊎_elim
-      (λ (t : get_elem? s.views j ≡ some u). rule.whole j u t is)
-      (λ (t : reader_of v.stored ≡ u).
-      absurd (false≢true (ap (λ (k : Known). k.is_writer) t ∙ is)))
-      (was j u e);
-  one = λ j k u w e f is too. rule.one j k u w (old j u e is) (old k w f too) is too;
-}
-  where
-    was : (j : ℕ) (u : Known)
-        → get_elem? (slice_set s.views id v ++ reader_of v.stored ∷ []) j ≡ some u
-        → (get_elem? s.views j ≡ some u) ⊎ (reader_of v.stored ≡ u)
-    was j u e =
-        at_snoc s.views (reader_of v.stored) u j
-        (subst (λ (l : List Known). get_elem? (l ++ reader_of v.stored ∷ []) j ≡ some u)
-        (set_again s.views id v at) e)
-
-    old : (j : ℕ) (u : Known)
-        → get_elem? (slice_set s.views id v ++ reader_of v.stored ∷ []) j ≡ some u
-        → u.is_writer ≡ true → get_elem? s.views j ≡ some u
-    old j u e is = ⊎_elim
-        (λ (t : get_elem? s.views j ≡ some u). t)
-        (λ (t : reader_of v.stored ≡ u).
-        absurd (false≢true (ap (λ (k : Known). k.is_writer) t ∙ is)))
-        (was j u e)

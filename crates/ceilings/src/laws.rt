@@ -1,8 +1,8 @@
-//! A law of all lists of what was stored, by the definitions only.
+//! A law of all lists of what was raised, by the definitions only.
 
-ghost use Rattle.ceilings.specs.Rule.{StoredGrows};
+ghost use Rattle.ceilings.specs.Rule.{CeilingsGrow};
 
-/// Law: the greatest number that was stored for a counter doesn't fall as more is stored.
-pub fn stored_grows()
-    ensures { StoredGrows }
+/// Law: the greatest number to which a counter's ceiling was raised doesn't fall.
+pub fn ceilings_grow()
+    ensures { CeilingsGrow }
 {}

@@ -1,20 +1,21 @@
 //! The rule of the table of ceilings. No value of these types is made; they are names for
 //! definitions.
 
-use atomic_table::{Play, Split, TableRule};
+use atomic_table::{Join, Play, TableRule};
 use std::collections::LinkedList;
 
-/// A number that was stored for a counter.
-pub struct Stored {
+/// A number to which a counter's ceiling was raised.
+pub struct Raised {
     pub cell: u64,
     pub number: u64,
 }
 
-/// What a seat knows: all that was stored up to some moment, the first first. The writer's seat
-/// knows all.
+/// What a seat knows: all that was raised up to some moment, the first first; and what a reader
+/// knew that was joined to it. The writer's seat knows all that was raised.
 pub struct Known {
     pub is_writer: bool,
-    pub stored: LinkedList<Stored>,
+    pub raised: LinkedList<Raised>,
+    pub joined: LinkedList<Raised>,
 }
 
 /// The rule of a table with this number of words.
@@ -29,6 +30,13 @@ impl TableRule<(), Known, usize> for OneLog {
     ghost first = { λ _. writer_of [] };
 }
 
+/// A reader's seat is made, which knows nothing.
+pub struct Enter;
+
+impl Play<(), Known> for Enter {
+    ghost then = { λ _ _ _ _. Unit {0} };
+}
+
 /// A look at a ceiling.
 pub struct Look;
 
@@ -38,7 +46,7 @@ impl Play<(), Known> for Look {
     ghost then = { λ s old found new. Looks s.word old found new };
 }
 
-/// A ceiling is raised to a number that was stored.
+/// A ceiling is raised.
 pub struct Raise;
 
 impl Play<(), Known> for Raise {
@@ -47,13 +55,23 @@ impl Play<(), Known> for Raise {
     ghost then = { λ s old found new. Raises s.word old found new };
 }
 
-/// A reader's seat is split off.
-pub struct CutReader;
+/// What a reader knows is joined to the writer's seat.
+pub struct JoinReader;
 
-impl Split<Known> for CutReader {
-    ghost use Rattle.ceilings.specs.Rule.{reader_of};
+impl Join<Known> for JoinReader {
+    ghost use Rattle.std.specs.Prelude.{[]};
+    ghost use Rattle.ceilings.specs.Rule.{joined_to, reader_of};
 
-    ghost left = { λ v. v };
+    ghost both = { joined_to };
 
-    ghost right = { λ v. reader_of v.stored };
+    ghost spent = { reader_of [] };
+}
+
+/// The writer's seat is compared with what was joined to it.
+pub struct Compare;
+
+impl Play<(), Known> for Compare {
+    ghost use Rattle.ceilings.specs.Rule.{Compares};
+
+    ghost then = { λ _ old _ new. Compares old new };
 }

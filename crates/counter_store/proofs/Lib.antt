@@ -1,2 +1,4 @@
 mod Backing
+mod Kept
+mod Receipts
 mod Stored

@@ -13,8 +13,8 @@ use Rattle.cells.specs.declared.array.CellArray.{CellArray}
 use Rattle.cells.specs.Apart.{ArraysLieApart}
 use Rattle.cells.specs.Arrays.{HasCell}
 use Rattle.cells.specs.Directory.{IsDirectory}
-use Rattle.ceilings.specs.declared.rule.Stored.{Stored}
-use Rattle.ceilings.specs.Rule.{stored_in}
+use Rattle.ceilings.specs.declared.rule.Raised.{Raised}
+use Rattle.ceilings.specs.Rule.{raised_in}
 use Rattle.counter_store.specs.Ledger.{IsBacked}
 use Rattle.counter_store.specs.Places.{has_cell, places_in, places_of}
 use Rattle.counter_store.specs.Quotas.{PlacesAreStored}
@@ -22,9 +22,9 @@ use Rattle.counter_store.specs.Quotas.{PlacesAreStored}
 both_below : (p a b v : ℕ) → min p a ≤ v → min p b ≤ v → min p (max a b) ≤ v
 both_below p a b v first rest = omega (arith, first, rest)
 
-most : (arrays : List CellArray) (numbers : List ℕ) (cell : ℕ) (raised : List Stored)
+most : (arrays : List CellArray) (numbers : List ℕ) (cell : ℕ) (raised : List Raised)
     → All (IsBacked arrays numbers) raised
-    → min (places_in arrays cell) (stored_in cell raised) ≤ slice_index numbers cell
+    → min (places_in arrays cell) (raised_in cell raised) ≤ slice_index numbers cell
 most arrays numbers cell [] all = omega arith
 most arrays numbers cell (s ∷ raised) all =
     by_cell (s.cell == cell) refl (All-head (IsBacked arrays numbers) s raised all).places
@@ -32,12 +32,12 @@ most arrays numbers cell (s ∷ raised) all =
   where
     by_cell : (t : Bool) → (s.cell == cell) ≡ t
         → min (places_in arrays s.cell) s.number ≤ slice_index numbers s.cell
-        → min (places_in arrays cell) (stored_in cell raised) ≤ slice_index numbers cell
+        → min (places_in arrays cell) (raised_in cell raised) ≤ slice_index numbers cell
         → min (places_in arrays cell)
-        (if t then max s.number (stored_in cell raised) else stored_in cell raised)
+        (if t then max s.number (raised_in cell raised) else raised_in cell raised)
         ≤ slice_index numbers cell
     by_cell true e first rest =
-        both_below (places_in arrays cell) s.number (stored_in cell raised)
+        both_below (places_in arrays cell) s.number (raised_in cell raised)
         (slice_index numbers cell)
         (subst (λ (c : ℕ). min (places_in arrays c) s.number ≤ slice_index numbers c)
         (eqb-true s.cell cell e) first) rest

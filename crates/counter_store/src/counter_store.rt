@@ -1,18 +1,21 @@
 //! The store of a server's counters: their ledger, and the file to which it commits.
 
-ghost use Rattle.std.specs.Prelude.{◌≡◌, ◌≢◌, [], All, IfOk, IfSome, IsTrue, Ok, false, true};
-ghost use Rattle.std.specs.Prelude.{map, string_bytes};
+ghost use Rattle.std.specs.Prelude.{◌≡◌, ◌≢◌, All, IfOk, IfSome, IsTrue, OnErr, Ok, false};
+ghost use Rattle.std.specs.Prelude.{map, string_bytes, true};
 ghost use Rattle.std.specs.Arc.{arc_value};
 ghost use Rattle.cells.specs.Events.{AreCells};
-ghost use Rattle.counters_file.specs.Kept.{Keeps};
-ghost use Rattle.counters_file.specs.Lines.{counters};
-ghost use Rattle.counter_store.specs.Ledger.{AreNotLower, IsBacked};
+ghost use Rattle.ceilings.specs.Seats.{IsAt};
+ghost use Rattle.counters_file.specs.Kept.{IsWhole, Keeps};
+ghost use Rattle.counters_file.specs.Text.{contents};
+ghost use Rattle.counter_store.specs.Ledger.{AreNext, IsBacked};
+ghost use Rattle.counter_store.specs.Places.{places_in};
+ghost use Rattle.counter_store.specs.Quotas.{CoveredAreStored};
 
 use crate::ledger::Ledger;
+use ceilings::Reader;
 use cells::Directory;
 use counters_file::{CountersFault, KeptFile, commit};
-use kept_cells::{Kept, KeptPass};
-use shared_cells::SharedPass;
+use kept_cells::Kept;
 use std::alloc::{AllocError, Global};
 use std::mem;
 use std::sync::Arc;
@@ -60,20 +63,27 @@ impl<F: KeptFile + Drop> CounterStore<F> {
         self.ledger.invariant_law();
     }
 
-    /// A new pass that notes its tickets for this store.
-    // open: whether an allocation fails.
-    pub fn pass(&mut self, alloc: Global, pass: SharedPass) -> Result<KeptPass, AllocError>
-        requires { pass.events ≡ [] }
-        ensures { IfOk result (λ p. p ≡ pass) }
+    /// Law: take events that a receipt of this store's ceilings covers. Each place of a quota that
+    /// they took is below the number that the last commit has for its cell.
+    pub fn receipt_law(&mut self, receipt: Reader)
+        requires { IsAt self.old.ledger.ceilings receipt }
+        ensures same { self.new.ledger ≡ self.old.ledger }
+        ensures stored { CoveredAreStored self.new.ledger.arrays self.new.ledger.numbers
+            receipt.raised }
     {
-        let reader = self.ledger.reader();
-        KeptPass::noting(alloc, pass, self.ledger.kept(), reader)
+        self.ledger.receipt_law(receipt);
     }
 
-    /// What is shared with the workers: with it they wake the thread of the store, which waits.
-    // open: that it is that of the passes.
-    pub fn shared(&self) -> Option<Arc<Kept>> {
-        Arc::try_clone(self.ledger.kept()).ok()
+    /// What is shared with the workers: with it they look at the ceilings, and wake the thread of
+    /// the store, which waits.
+    // open: whether there are too many owners.
+    pub fn shared(&self) -> Result<Arc<Kept>, AllocError>
+        ensures { IfOk result (λ kept. arc_value kept ≡ self.now.ledger.ceilings) }
+    {
+        match Arc::try_clone(self.ledger.kept()) {
+            Ok(kept) => Ok(kept),
+            Err(_) => Err(AllocError),
+        }
     }
 
     /// Adopts all arrays of the server, of which it may have some already, and the appids of its
@@ -84,7 +94,9 @@ impl<F: KeptFile + Drop> CounterStore<F> {
         halted: Vec<String>,
         directory: Directory,
     ) -> Result<(), AllocError>
-        ensures { self.new.ledger.numbers ≡ self.old.ledger.numbers }
+        ensures numbers { self.new.ledger.numbers ≡ self.old.ledger.numbers }
+        ensures ceilings { self.new.ledger.ceilings ≡ self.old.ledger.ceilings }
+        ensures nothing { OnErr result (self.new ≡ self.old) }
     {
         self.ledger.learn(alloc, directory)?;
         let _before = mem::replace(&mut self.halted, halted);
@@ -92,23 +104,34 @@ impl<F: KeptFile + Drop> CounterStore<F> {
         Ok(())
     }
 
-    /// Stores what the workers want, and then raises the ceilings. Returns whether there was
-    /// something to store. Returns K4 if the file can't be written, and B4 if an allocation fails;
-    /// then no ceiling is raised, and replies aren't waited for until a commit succeeds.
+    /// Stores what the workers want, and then raises the ceilings. Cells without a quota get these
+    /// present values. Returns whether there was something to store: a new value of a cell without a
+    /// quota counts only if it `is_due`. Returns K4 if the file can't be written, and B4 if an
+    /// allocation fails. Then no ceiling is raised, and no reply waits until a commit succeeds.
     // open: what the workers want, and when K4 and B4 are returned.
-    pub fn commit(&mut self, alloc: Global) -> Result<bool, CountersFault>
+    pub fn commit(
+        &mut self,
+        alloc: Global,
+        present: &[u64],
+        is_due: bool,
+    ) -> Result<bool, CountersFault>
+        requires { AreCells present.now }
         ensures arrays { self.new.ledger.arrays ≡ self.old.ledger.arrays }
-        ensures not_lower { AreNotLower self.old.ledger.numbers self.new.ledger.numbers }
+        ensures ceilings { self.new.ledger.ceilings ≡ self.old.ledger.ceilings }
+        ensures next { result ≡ Ok true → AreNext (places_in self.old.ledger.arrays) present.now
+            self.old.ledger.numbers self.new.ledger.numbers }
         ensures stored { IfOk result (λ is_new. IsTrue is_new
-            → IfSome (F.known self.old.file) (λ _. IfSome (F.known self.new.file) (Keeps (record {
-              was_stopped = false;
-              halted = map string_bytes self.old.halted.items;
-              counters = counters self.new.ledger.arrays self.new.ledger.numbers;
-            })))) }
+            → IfSome (F.known self.old.file) (λ _. IfSome (F.known self.new.file)
+            (Keeps (contents false (map string_bytes self.old.halted.items)
+            self.new.ledger.arrays self.new.ledger.numbers)))) }
+        ensures failed { OnErr result (AreNext (places_in self.old.ledger.arrays) present.now
+            self.old.ledger.numbers self.new.ledger.next × IsWhole (contents false (map string_bytes
+            self.old.halted.items) self.new.ledger.arrays self.new.ledger.next)
+            (F.known self.old.file) (F.known self.new.file)) }
         ensures same { result ≢ Ok true → (self.new.ledger.numbers ≡ self.old.ledger.numbers)
             × (self.new.ledger.raised ≡ self.old.ledger.raised) }
     {
-        let is_new = self.ledger.plan();
+        let is_new = self.ledger.plan(present, is_due);
         if !is_new && !self.has_news {
             self.ledger.kept().set_failing(false);
             return Ok(false);

@@ -5,7 +5,7 @@ ghost use Rattle.counter_store.specs.Quotas.{PlacesAreStored};
 use cells::arrays_lie_apart;
 
 /// Law: if each ceiling is backed by the numbers, a place of a quota that is below a ceiling is
-/// below the number of its cell. So it is for the place of a receipt, with the numbers of the file.
+/// below the number of its cell.
 pub fn places_are_stored()
     ensures { PlacesAreStored }
 {

@@ -1,16 +1,18 @@
 //! The numbers that a file has for cells, and the ceilings, which are never above them.
 
-ghost use Rattle.std.specs.Prelude.{◌≡◌, ℕ, List, ◌<◌, ◌≤◌, min, All, IfOk};
+ghost use Rattle.std.specs.Prelude.{◌≡◌, ℕ, List, ◌<◌, ◌≤◌, min, All, IfOk, OnErr};
 ghost use Rattle.std.specs.Arc.{arc_value};
 ghost use Rattle.cells.specs.Events.{AreCells};
 ghost use Rattle.ceilings.specs.Seats.{IsAt};
-ghost use Rattle.counter_store.specs.Ledger.{AreNotLower, IsBacked};
-ghost use Rattle.counter_store.specs.Places.{ArePlaces};
+ghost use Rattle.counter_store.specs.Ledger.{AreNext, AreNotLower, IsBacked, KeepsPlaces};
+ghost use Rattle.counter_store.specs.Places.{ArePlaces, places_in};
+ghost use Rattle.counter_store.specs.Quotas.{CoveredAreStored};
 
-use crate::next_number::plan;
+use crate::laws::places_are_stored;
+use crate::next_number::{is_any_new, plan};
 use crate::places::{are_no_more, places};
 use ceilings::{Reader, Writer};
-use cells::{CellNo, Directory};
+use cells::{CellNo, Directory, arrays_lie_apart};
 use kept_cells::Kept;
 use std::alloc::{AllocError, Global};
 use std::marker::Model;
@@ -36,7 +38,7 @@ impl Model for Ledger {
 
     ghost view = { λ l. record {
       ceilings = arc_value l.kept;
-      raised = l.writer.stored;
+      raised = l.writer.raised;
       arrays = l.directory;
       numbers = l.numbers.items;
       next = l.next.items;
@@ -102,29 +104,46 @@ impl Ledger {
         &self.next
     }
 
-    /// A reader of the ceilings.
-    pub(crate) fn reader(&mut self) -> Reader
+    /// Law: each place of a quota that a receipt covers is below the number of its cell.
+    pub(crate) fn receipt_law(&mut self, receipt: Reader)
+        requires { IsAt self.old.ceilings receipt }
         ensures same { self.new ≡ self.old }
-        ensures own { IsAt self.new.ceilings result }
+        ensures stored { CoveredAreStored self.new.arrays self.new.numbers receipt.raised }
     {
-        self.kept.reader(&mut self.writer)
+        arrays_lie_apart();
+        places_are_stored();
+        let _arrays = self.directory.arrays();
+        self.kept.seen(receipt, &mut self.writer);
     }
 
-    /// Plans the next numbers. Returns whether one is new.
-    pub(crate) fn plan(&mut self) -> bool
+    /// Plans the next numbers, with these values of the cells without a quota. Returns whether one
+    /// is new; unless all are `due`, only numbers of quotas count.
+    pub(crate) fn plan(&mut self, present: &[u64], is_due: bool) -> bool
+        requires { AreCells present.now }
         ensures numbers { self.new.numbers ≡ self.old.numbers }
         ensures arrays { self.new.arrays ≡ self.old.arrays }
         ensures raised { self.new.raised ≡ self.old.raised }
         ensures ceilings { self.new.ceilings ≡ self.old.ceilings }
-        ensures not_lower { AreNotLower self.new.numbers self.new.next }
+        ensures next { AreNext (places_in self.new.arrays) present.now self.new.numbers
+            self.new.next }
     {
-        plan(&self.kept, &self.places, &self.numbers, &mut self.next);
-        self.next.as_slice() != self.numbers.as_slice()
+        plan(
+            &self.kept,
+            &self.places,
+            &self.numbers,
+            present,
+            &mut self.next,
+        );
+        if is_due {
+            self.next.as_slice() != self.numbers.as_slice()
+        } else {
+            is_any_new(&self.places, &self.numbers, &self.next)
+        }
     }
 
     /// Takes the next numbers, which were stored, and raises the ceilings by them.
     pub(crate) fn take_next(&mut self)
-        requires { AreNotLower self.old.numbers self.old.next }
+        requires { KeepsPlaces (places_in self.old.arrays) self.old.numbers self.old.next }
         ensures numbers { self.new.numbers ≡ self.old.next }
         ensures arrays { self.new.arrays ≡ self.old.arrays }
         ensures ceilings { self.new.ceilings ≡ self.old.ceilings }
@@ -153,6 +172,7 @@ impl Ledger {
     pub(crate) fn learn(&mut self, alloc: Global, directory: Directory) -> Result<(), AllocError>
         ensures numbers { self.new.numbers ≡ self.old.numbers }
         ensures ceilings { self.new.ceilings ≡ self.old.ceilings }
+        ensures nothing { OnErr result (self.new ≡ self.old) }
     {
         let places = places(alloc, directory.arrays())?;
         if are_no_more(&places, &self.places) {

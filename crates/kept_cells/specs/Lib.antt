@@ -1,2 +1,2 @@
 pub mod Tickets
-pub mod Owing
+pub mod Noted

@@ -1,10 +1,11 @@
--- Tickets, and which of them are covered by numbers that were stored.
+-- Tickets, and which of them are covered by ceilings that were raised.
 use Rattle.std.specs.Prelude.{◌≡◌, ℕ, ◌<◌, ◌^◌, ◌-◌, nat_lt, Bool, ◌&&◌, IsTrue}
 use Rattle.std.specs.Prelude.{List, All, length, Option, Some, None}
+use Rattle.atomic_table.specs.Seated.{TableId}
 use Rattle.cells.specs.declared.event.CellEvent.{CellEvent}
-use Rattle.ceilings.specs.declared.rule.Stored.{Stored}
-use Rattle.ceilings.specs.Rule.{stored_in}
-use Rattle.ceilings.specs.Seats.{SeatView}
+use Rattle.ceilings.specs.declared.rule.Raised.{Raised}
+use Rattle.ceilings.specs.Rule.{raised_in}
+use Rattle.ceilings.specs.Seats.{IsAt, SeatView}
 use Rattle.shared_cells.specs.Passes.{PassView}
 use Rattle.shared_cells.specs.Quotas.{adds_one}
 
@@ -12,14 +13,15 @@ use Rattle.shared_cells.specs.Quotas.{adds_one}
 abbrev pub is_ticket : CellEvent → Bool
 is_ticket e = nat_lt e.cell 4096 && adds_one e.op && nat_lt e.reply (2 ^ 63)
 
--- a number above each ticket was stored for its cell
-abbrev pub AreCovered : List Stored → List CellEvent → Type 0
-AreCovered stored = All (λ e. IsTrue (is_ticket e) → e.reply < stored_in e.cell stored)
+-- the ceiling of each ticket's cell was raised above it
+abbrev pub AreCovered : List Raised → List CellEvent → Type 0
+AreCovered raised = All (λ e. IsTrue (is_ticket e) → e.reply < raised_in e.cell raised)
 
--- the receipt is a reader that knows of such numbers
-abbrev pub ShowsCovered : Option SeatView → List CellEvent → Type 0
-ShowsCovered (Some reader) events = AreCovered reader.stored events
-ShowsCovered None events = ⊥
+-- the receipt is a reader of these ceilings, which knows that
+abbrev pub ShowsCovered : (ceilings : TableId) → Option SeatView → List CellEvent → Type 0
+ShowsCovered ceilings (Some reader) events =
+    IsAt ceilings reader × AreCovered reader.raised events
+ShowsCovered ceilings None events = ⊥
 
 -- a mark is how many events the pass had; 2^64 - 1 is none
 abbrev pub IsMark : ℕ → PassView → Type 0

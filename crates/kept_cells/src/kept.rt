@@ -3,7 +3,7 @@
 ghost use Rattle.std.specs.Prelude.{◌≡◌, ◌<◌, ◌≤◌, ◌++◌, [], ◌∷◌, IfOk};
 ghost use Rattle.std.specs.Arc.{arc_value};
 ghost use mathlib.Core.List.{IsPrefix};
-ghost use Rattle.ceilings.specs.Rule.{stored_as, stored_in};
+ghost use Rattle.ceilings.specs.Rule.{raised_as, raised_in};
 ghost use Rattle.ceilings.specs.Seats.{IsAt};
 
 use crate::wanted::Wanted;
@@ -38,7 +38,7 @@ impl Kept {
     // open: whether an allocation fails.
     pub fn new(alloc: Global) -> Result<(Arc<Kept>, Writer), AllocError>
         ensures own { IfOk result (λ made. IsAt (arc_value made.0) made.1) }
-        ensures none { IfOk result (λ made. made.1.stored ≡ []) }
+        ensures none { IfOk result (λ made. made.1.raised ≡ []) }
     {
         let wanted = Wanted::new(alloc)?;
         let (ceilings, writer) = Ceilings::new(alloc, CellNo::FIRST_NARROW as usize)?;
@@ -48,23 +48,31 @@ impl Kept {
         Ok((kept, writer))
     }
 
-    /// A reader of the ceilings, who knows what the writer knows.
-    pub fn reader(&self, writer: &mut Writer) -> Reader
-        requires own { IsAt self.now writer.old }
-        ensures writer { writer.new ≡ writer.old }
-        ensures reader { result ≡ writer.old }
+    /// A new reader of the ceilings.
+    pub fn reader(&self) -> Reader
+        ensures { IsAt self.now result }
     {
-        self.ceilings.reader(writer)
+        self.ceilings.reader()
     }
 
-    /// Makes a number that was stored for a 64-bit cell its ceiling.
+    /// Raises the ceiling of a 64-bit cell to this number.
     pub fn raise(&self, writer: &mut Writer, cell: usize, number: u64)
         requires own { IsAt self.now writer.old }
         requires cell { cell < 4096 }
         ensures own { IsAt self.now writer.new }
-        ensures stored { writer.new.stored ≡ writer.old.stored ++ stored_as cell number ∷ [] }
+        ensures raised { writer.new.raised ≡ writer.old.raised ++ raised_as cell number ∷ [] }
     {
         self.ceilings.raise(writer, cell, number);
+    }
+
+    /// Law: a reader knows only raises that the writer has made.
+    pub fn seen(&self, reader: Reader, writer: &mut Writer)
+        requires reader { IsAt self.now reader }
+        requires writer { IsAt self.now writer.old }
+        ensures same { writer.new ≡ writer.old }
+        ensures seen { IsPrefix reader.raised writer.new.raised }
+    {
+        self.ceilings.seen(reader, writer);
     }
 
     /// The greatest number that the workers wanted for a cell so far.
@@ -73,7 +81,7 @@ impl Kept {
         self.wanted.number(cell)
     }
 
-    /// Notes whether the last commit failed. While that is so, no reply waits.
+    /// Notes whether the last commit failed, or took too long. While that is so, no reply waits.
     // open: that no reply waits: tests.
     pub fn set_failing(&self, is_failing: bool) {
         self.wanted.set_failing(is_failing);
@@ -91,20 +99,12 @@ impl Kept {
         self.wanted.wait(rt, most);
     }
 
-    pub(crate) fn another(&self, reader: &mut Reader) -> Reader
-        requires own { IsAt self.now reader.old }
-        ensures same { reader.new ≡ reader.old }
-        ensures another { result ≡ reader.old }
-    {
-        self.ceilings.another(reader)
-    }
-
     pub(crate) fn look(&self, reader: &mut Reader, cell: usize) -> u64
         requires own { IsAt self.now reader.old }
         requires cell { cell < 4096 }
         ensures own { IsAt self.now reader.new }
-        ensures onwards { IsPrefix reader.old.stored reader.new.stored }
-        ensures stored { result ≤ stored_in cell reader.new.stored }
+        ensures onwards { IsPrefix reader.old.raised reader.new.raised }
+        ensures raised { result ≤ raised_in cell reader.new.raised }
     {
         self.ceilings.look(reader, cell)
     }

@@ -1,6 +1,7 @@
 //! Shared cells whose passes note their tickets.
 
-ghost use Rattle.std.specs.Prelude.{◌≡◌};
+ghost use Rattle.std.specs.Prelude.{◌≡◌, length};
+ghost use Rattle.cells.specs.Events.{AreCells};
 ghost use Rattle.shared_cells.specs.Passes.{IsPassOf, Gained};
 
 use crate::kept_pass::KeptPass;
@@ -29,6 +30,15 @@ impl KeptCells {
         ensures { result ≡ cells }
     {
         KeptCells { cells }
+    }
+
+    /// Copies the values of all cells, by their numbers, each at some moment.
+    // open: that these are values of the history, and not old ones: tests.
+    pub fn copy_values(&self, values: &mut [u64])
+        requires { length values.old ≡ 8192 }
+        ensures { AreCells values.new }
+    {
+        self.cells.copy_values(values);
     }
 
     /// The shared cells.

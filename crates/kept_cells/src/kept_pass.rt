@@ -1,39 +1,37 @@
 //! A pass that notes its tickets.
 
-ghost use Rattle.std.specs.Prelude.{◌≡◌, ◌<◌, ◌-◌, ◌^◌, [], IfOk, IfSome, drop};
-ghost use Rattle.std.specs.Arc.{arc_value};
+ghost use Rattle.std.specs.Prelude.{◌≡◌, ◌<◌, ◌-◌, ◌^◌, [], IfOk, IsTrue, drop};
 ghost use Rattle.cells.specs.Events.{event, CanReply};
 ghost use Rattle.ceilings.specs.Seats.{IsAt};
 ghost use Rattle.shared_cells.specs.Passes.{IsPassOf, Gained};
 ghost use Rattle.kept_cells.specs.Tickets.{AreCovered, IsMark};
 
 use crate::kept::Kept;
-use crate::owing::Owing;
+use crate::ticket_notes::TicketNotes;
 use ceilings::Reader;
 use cells::{CellNo, CellOp, CellSteps};
 use shared_cells::{SharedCells, SharedPass};
 use std::alloc::{AllocError, Global};
 use std::marker::Model;
-use std::sync::Arc;
 
 /// A thread's right to act on shared cells, with notes of its tickets if there are ceilings. In
 /// contracts it is the shared pass.
 #[derive(Drop)]
 pub struct KeptPass {
     pass: SharedPass,
-    owing: Option<Owing>,
+    notes: Option<TicketNotes>,
 }
 
 impl Model for KeptPass {
     ghost use Rattle.std.specs.Prelude.{IfSome};
     ghost use Rattle.shared_cells.specs.Passes.{PassView};
-    ghost use Rattle.kept_cells.specs.Owing.{Notes};
+    ghost use Rattle.kept_cells.specs.Noted.{Notes};
 
     ghost Value = { PassView };
 
     ghost view = { λ p. p.pass };
 
-    ghost invariant = { λ p. IfSome p.owing (λ o. Notes o p.pass.events) };
+    ghost invariant = { λ p. IfSome p.notes (λ n. Notes n p.pass.events) };
 }
 
 impl KeptPass {
@@ -41,25 +39,19 @@ impl KeptPass {
     pub fn plain(pass: SharedPass) -> KeptPass
         ensures { result ≡ pass }
     {
-        KeptPass { pass, owing: None }
+        KeptPass { pass, notes: None }
     }
 
-    /// A new pass that notes its tickets, with a reader of the ceilings.
+    /// A new pass that notes its tickets.
     // open: whether an allocation fails.
-    pub fn noting(
-        alloc: Global,
-        pass: SharedPass,
-        kept: &Arc<Kept>,
-        reader: Reader,
-    ) -> Result<KeptPass, AllocError>
-        requires new { pass.events ≡ [] }
-        requires own { IsAt (arc_value kept.now) reader }
+    pub fn noting(alloc: Global, pass: SharedPass) -> Result<KeptPass, AllocError>
+        requires { pass.events ≡ [] }
         ensures { IfOk result (λ p. p ≡ pass) }
     {
-        let owing = Owing::new(alloc, kept, reader)?;
+        let notes = TicketNotes::new(alloc)?;
         Ok(KeptPass {
             pass,
-            owing: Some(owing),
+            notes: Some(notes),
         })
     }
 
@@ -69,7 +61,7 @@ impl KeptPass {
     {
         let KeptPass {
             pass,
-            owing: _owing,
+            notes: _notes,
         } = self;
         pass
     }
@@ -80,9 +72,9 @@ impl KeptPass {
         ensures fits { CanReply cell.number op result }
     {
         let reply = cells.act(&mut self.pass, cell, op);
-        match &mut self.owing {
-            Some(owing) => {
-                owing.note(cell, op, reply);
+        match &mut self.notes {
+            Some(notes) => {
+                notes.note(cell, op, reply);
                 reply
             }
             None => reply,
@@ -93,43 +85,29 @@ impl KeptPass {
         ensures same { self.new ≡ self.old }
         ensures marks { IsMark result self.new }
     {
-        match &mut self.owing {
-            Some(owing) => owing.begin(),
+        match &mut self.notes {
+            Some(notes) => notes.begin(),
             None => u64::MAX,
         }
     }
 
-    /// A reader that shows that each ticket since the mark is covered, unless one isn't.
-    pub(crate) fn receipt(&mut self, mark: u64) -> Option<Reader>
-        ensures same { self.new ≡ self.old }
-        ensures mark { IfSome result (λ _. mark < 2 ^ 64 - 1) }
-        ensures covered { IfSome result (λ r. AreCovered r.stored (drop mark self.new.events)) }
+    /// Whether the ceilings are above each ticket since the mark. False if none are noted from it.
+    pub(crate) fn is_covered(&self, mark: u64, kept: &Kept, reader: &mut Reader) -> bool
+        requires own { IsAt kept.now reader.old }
+        ensures own { IsAt kept.now reader.new }
+        ensures mark { IsTrue result → mark < 2 ^ 64 - 1 }
+        ensures covered { IsTrue result → AreCovered reader.new.raised (drop mark self.now.events) }
     {
-        match &mut self.owing {
-            Some(owing) => owing.receipt(mark),
-            None => None,
+        match &self.notes {
+            Some(notes) => notes.is_covered(mark, kept, reader),
+            None => false,
         }
     }
 
-    /// Wants that what is owed is stored.
-    pub(crate) fn want(&self) {
-        if let Some(owing) = &self.owing {
-            owing.want();
-        }
-    }
-
-    /// Notes that a reply waited in vain, as if a commit had failed.
-    pub(crate) fn set_failing(&self) {
-        if let Some(owing) = &self.owing {
-            owing.set_failing();
-        }
-    }
-
-    /// Whether the last commit failed. So it is without ceilings.
-    pub(crate) fn is_failing(&self) -> bool {
-        match &self.owing {
-            Some(owing) => owing.is_failing(),
-            None => true,
+    /// Wants ceilings that are above the tickets since the mark.
+    pub(crate) fn want(&self, kept: &Kept) {
+        if let Some(notes) = &self.notes {
+            notes.want(kept);
         }
     }
 }

@@ -1,26 +1,25 @@
-//! Shared counters of which a file keeps the quotas: a reply may be sent once a number above each
-//! of its places is stored.
+//! Shared counters of which a file keeps the quotas: a reply may be sent once the ceiling of each of
+//! its places is above it.
 //!
 //! See docs/DECISIONS.md, "Counters".
 #![tactic(auto)]
 
-// A place of a quota is taken by an addition of 1, whose reply is the place's ticket. A pass notes
-// each ticket that isn't below its counter's ceiling: for the counter it owes a number above the
-// ticket. Before a reply is sent, the cover wants what is owed to be stored, and looks at the
-// ceilings until each is above what was noted. The receipt is a reader of the ceilings, which knows
-// of numbers that were stored above all tickets of the request.
+// A place of a quota is taken by an addition of 1, whose reply is the place's ticket. A pass notes a
+// number above each ticket. Before a reply is sent, the cover looks at the ceilings of the store. If
+// one is too low it wants it to be raised, and looks again until it is. The receipt is a reader of
+// these ceilings, which knows that each was raised above the tickets of the request.
 //
 // In contracts a pass is the shared pass within it. What it has noted is hidden: each ticket since
-// the last mark is below a number that its reader knows to be stored, or below what is owed.
+// the last mark is below the number of its cell.
 //
-// What workers want to be stored goes through plain atomic numbers, of which nothing is known.
-// Nothing has to be: any number may be stored, and the store raises a ceiling only to one that was.
+// What workers want goes through plain atomic numbers, of which nothing is known. Nothing has to be:
+// any number may be stored, and the store raises a ceiling only as far as its file allows.
 
 mod kept;
 mod kept_cells;
 mod kept_pass;
-mod owing;
 mod store_cover;
+mod ticket_notes;
 mod wanted;
 
 pub use kept::Kept;

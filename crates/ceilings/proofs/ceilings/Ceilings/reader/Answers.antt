@@ -1,11 +1,9 @@
-use Rattle.std.proofs.Common.{sym, ap, ◌∙◌, arith}
-use Rattle.ceilings.proofs.Steps.{splits}
-use Rattle.ceilings.specs.Seats.{SeatView}
+use Rattle.std.proofs.Common.{arith}
+use Rattle.ceilings.proofs.Readers.{enters}
 use Rattle.ceilings.proofs.ceilings.Ceilings.reader.Goals as goal
 
-pub split_seat-seat-requires : goal.split_seat-seat-requires
-split_seat-seat-requires c = (
-  ap (λ (p : SeatView). p.table) c.writer.view_is ∙ c.requires.own ∙ sym c.self.view_is,
+pub load_new_seat-found-requires : goal.load_new_seat-found-requires
+load_new_seat-found-requires c = (
   omega (arith, c.self.invariant.0, c.self.invariant.2),
-  splits c.self.inside.table.shared.key c.writer.inside.seat.id c.writer.inside.seat.me.0,
+  enters c.self.inside.table.shared.key c.self.inside.table.shared.table_id.slots 0,
 )

@@ -1,5 +1,5 @@
-use Rattle.std.proofs.Common.{◌≡◌}
+use Rattle.ceilings.specs.Seats.{IsAt}
 use Rattle.kept_cells.proofs.store_cover.StoreCover.wait.Given as goal
 
 abbrev pub invariant-loop-look : goal.invariant-loop-look
-invariant-loop-look g l = l.pass ≡ l.initial.pass
+invariant-loop-look g l = IsAt l.kept l.reader
