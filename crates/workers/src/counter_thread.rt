@@ -1,9 +1,16 @@
 //! The thread that stores a server's counters. It has to run as long as a worker may wait for it,
 //! so it is ended after all workers.
 
+use crate::accept::Call;
+use crate::clients::start_accepting;
 use crate::serve_fault::ServeFault;
+use crate::stopping::StopFlags;
+use bounded_files::ResourceFault;
+use crossbeam_channel::Sender;
 use hot_swap::Generation;
 use operator::Control;
+use server_log::LogQueue;
+use std::net::TcpListener;
 use std::sync::Wait;
 use std::thread::{JoinHandle, Scope, Threads};
 use std::time::Clock;
@@ -14,6 +21,12 @@ pub trait CounterThread {
     fn run<H>(&mut self, rt: &H)
     where
         H: Wait + AllocGlobal + Clock;
+}
+
+/// What ties a thread that stores counters to the cover by which replies wait for it.
+pub trait StoresFor<K> {
+    /// Replies that this cover lets through wait for what the thread stores.
+    ghost stores_for: { Self → K → Type 0 };
 }
 
 /// How a server's other threads call the one that stores its counters.
@@ -27,16 +40,9 @@ pub trait Bell {
     fn end(&self);
 }
 
-/// The thread of a server whose counters aren't stored. It is never started.
+/// The bell of a server whose counters aren't stored, which wakes no thread.
 #[derive(Clone, Copy)]
 pub struct NoCounters;
-
-impl CounterThread for NoCounters {
-    fn run<H>(&mut self, _rt: &H)
-    where
-        H: Wait + AllocGlobal + Clock,
-    {}
-}
 
 impl Bell for NoCounters {
     fn note<H>(&self, _rt: &H, _control: &Control)
@@ -58,9 +64,37 @@ where
     }
 }
 
-/// Starts the thread that stores the counters, if they are stored. Returns B4 if it can't be
-/// started.
-pub(crate) fn start_counters<'s, E, H, T>(
+/// Starts the thread that stores the counters, if they are stored, and then the one that accepts
+/// connections. Returns B4 if one of them can't be started.
+pub(crate) fn start_others<'s, E, H, B, T>(
+    rt: &'s H,
+    scope: &Scope<'s, E>,
+    counters: Option<T>,
+    bell: &B,
+    listener: TcpListener,
+    queue: Sender<Call>,
+    ends: &'s StopFlags,
+    log: Option<&'s LogQueue>,
+) -> Result<Option<JoinHandle<T>>, ResourceFault>
+where
+    H: Wait + AllocGlobal + Clock + Sync,
+    B: Bell,
+    T: CounterThread + Send + Drop + 's,
+{
+    let Ok(storing) = start_counters(rt, scope, counters) else {
+        return Err(ResourceFault::Memory);
+    };
+    match start_accepting(rt, scope, listener, queue, ends, log) {
+        Ok(()) => Ok(storing),
+        Err(_) => {
+            bell.end();
+            Err(ResourceFault::Memory)
+        }
+    }
+}
+
+// Starts the thread that stores the counters, if they are stored.
+fn start_counters<'s, E, H, T>(
     rt: &'s H,
     scope: &Scope<'s, E>,
     counters: Option<T>,
@@ -88,11 +122,13 @@ where
     counters
 }
 
-/// What the thread ran, once it has ended.
-pub(crate) fn joined_counters<H: Threads, T: Drop>(
+/// Ends the thread that stores the counters, after all workers, and returns what it ran.
+pub(crate) fn ended_counters<H: Threads, B: Bell, T: Drop>(
     rt: &H,
+    bell: &B,
     thread: Option<JoinHandle<T>>,
 ) -> Option<T> {
+    bell.end();
     match thread {
         Some(thread) => Some(thread.join(rt)),
         None => None,

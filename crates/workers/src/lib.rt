@@ -42,7 +42,7 @@ mod worker;
 
 pub use accept::OperatorEnd;
 pub use clients::serve;
-pub use counter_thread::{Bell, CounterThread, NoCounters};
+pub use counter_thread::{Bell, CounterThread, NoCounters, StoresFor};
 pub use gate::Gate;
 pub use laws::answers_are_runs;
 pub use operating::operate;

@@ -7,14 +7,15 @@
 //! (`counter_thread`).
 
 ghost use Rattle.std.specs.Io.KnownBytes.{Appends};
-ghost use Rattle.std.specs.Prelude.{◌≡◌, ◌≤◌, All, IfOk, OnOk, length, map, string_bytes};
+ghost use Rattle.std.specs.Option.{is_some};
+ghost use Rattle.std.specs.Prelude.{◌≡◌, ◌≤◌, All, IfOk, IfSome, OnOk, length, map};
+ghost use Rattle.std.specs.Prelude.{string_bytes};
 ghost use Rattle.cells.specs.Directory.{IsDirectory};
 ghost use Rattle.workers.specs.Back.{IsPublished, OperatorBack, ServerBack};
 ghost use Rattle.workers.specs.Texts.{serving_line};
 
 use crate::accept::{Call, OperatorEnd};
-use crate::clients::start_accepting;
-use crate::counter_thread::{Bell, CounterThread, joined_counters, start_counters};
+use crate::counter_thread::{Bell, CounterThread, StoresFor, ended_counters, start_others};
 use crate::crew::{joined, start_workers};
 use crate::gate::NoGate;
 use crate::operating::operate;
@@ -132,8 +133,8 @@ where
         (λ r. S.prints ready control.old.publishing.latest.generation r.1) }
 {
     let ends = StopFlags::new();
-    let service = parts.service;
     let gate = NoGate;
+    let service = parts.service;
     let crew = Crew::new(&gate, parts.cover, service, workers.len(), &ends.operator);
     let Ok((queue, from)) = crossbeam_channel::bounded::<Call, _>(rt.alloc(), WAITING) else {
         return Err(ResourceFault::Memory);
@@ -160,23 +161,17 @@ where
             let Ok(threads) = start_workers(rt, scope, &crew, from, parts.cells, workers) else {
                 return Err(ResourceFault::Memory);
             };
-            let Ok(storing) = start_counters(rt, scope, counters) else {
-                return Err(ResourceFault::Memory);
-            };
-            let Ok(()) = start_accepting(rt, scope, listener, queue, &ends, service.log) else {
-                parts.bell.end();
-                return Err(ResourceFault::Memory);
-            };
+            let (bell, log) = (parts.bell, service.log);
+            let storing = start_others(rt, scope, counters, bell, listener, queue, &ends, log)?;
             let Ok(printed) = ready.print(control.generation()) else {
                 clients.end(rt, &ends);
-                parts.bell.end();
+                bell.end();
                 return Err(ResourceFault::File);
             };
-            note_serving(rt, service.log, control.generation());
+            note_serving(rt, log, control.generation());
             let ended = operate_then_end(rt, &operator, parts, pass, control, clients, &ends);
             let staff = joined(rt, threads, room);
-            parts.bell.end();
-            let counters = joined_counters(rt, storing);
+            let counters = ended_counters(rt, bell, storing);
             let back = returned(rt.alloc(), ended, staff, control);
             Ok((back, printed, counters))
         },
@@ -214,8 +209,11 @@ where
     K: Cover<C> + Sync,
     K::Receipt: Send + Drop,
     B: Bell,
-    T: CounterThread + Send + Drop,
+    T: CounterThread + StoresFor<K> + Send + Drop,
     O: Write,
+    // Replies wait if counters are stored, for what is stored.
+    requires waits { K.withholds parts.now.cover.now ≡ is_some counters }
+    requires stores { IfSome counters (λ t. T.stores_for t parts.now.cover.now) }
     requires pass { C.belongs parts.now.cells.now pass }
     requires workers { All (λ worker. C.belongs parts.now.cells.now worker.0) workers.items }
     requires some { 1 ≤ length workers.items }

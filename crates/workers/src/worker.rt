@@ -193,15 +193,16 @@ where
 }
 
 // Reads what a client sent after its request. A socket that is closed with unread bytes is reset,
-// and the reply may be lost with it (RFC 9112, section 9.6). After a 200 only the bytes that have
-// arrived are read, without waiting; a refused client may keep sending for a while.
+// and the reply may be lost with it (RFC 9112, section 9.6). A request with a 200 or a 503 was read
+// whole: only the bytes that have arrived are read, without waiting. Another refused client may
+// keep sending for a while.
 fn finish<H: Clock>(
     rt: &H,
     stream: &TcpStream,
     outcome: &Result<Sent, AnswerFault>,
 ) -> io::Result<()> {
     match outcome {
-        Ok(sent) if sent.status == 200 => take_rest(stream),
+        Ok(sent) if sent.status == 200 || sent.status == 503 => take_rest(stream),
         Ok(_) => drain(stream, rt),
         Err(_) => Ok(()),
     }
