@@ -6,17 +6,19 @@ use Rattle.report.specs.declared.window.Window.{Window}
 use Rattle.report_state.specs.Places.{AreApart, KeepsApart, LogPlace}
 use Rattle.report_state.specs.States.{SpellsCounts}
 use Rattle.log_tools.specs.Continued.{BeginsFrom, Continues, HasContinued}
-use Rattle.log_tools.specs.Reports.{CountsLogs, IsWindowOf, text_by}
+use Rattle.log_tools.specs.Reports.{CountsLogs, text_by}
 use Rattle.log_tools.specs.declared.report_form.ReportForm.{ReportForm}
 
+abbrev pub all_times : Window
+all_times = record { since = None; until = None }
+
 pub continues : (n : ℕ) (form : ReportForm) (begun report : Report) (text state : List ℕ)
-    (window : Window) → IsWindowOf None None window → CountsLogs window n begun report
-    → text ≡ text_by form Counter report → SpellsCounts state report
-    → (old new : List LogPlace) → KeepsApart old new
+    → CountsLogs all_times n begun report → text ≡ text_by form Counter report
+    → SpellsCounts state report → (old new : List LogPlace) → KeepsApart old new
     → Continues n form begun report old text
-continues n form begun report text state window all reads text_is spelled old new kept = record {
-  window = window;
-  window_is = all;
+continues n form begun report text state reads text_is spelled old new kept = record {
+  window = all_times;
+  window_is = record { since_is = tt; until_is = tt };
   parts = reads.logs;
   each = reads.each;
   counted = reads.counted;

@@ -1,13 +1,17 @@
 -- The lines of one more log are counted.
 use Rattle.std.proofs.Common.{◌≡◌, ◌∙◌, refl, sym, subst, ℕ, ◌+◌, List, [], ◌∷◌, ◌++◌}
 use Rattle.std.proofs.Common.{append_assoc, append-nil, flat_map, Option, arith}
-use Rattle.std.proofs.Common.{Bool, ◌||◌, is_some, string_bytes}
+use Rattle.std.proofs.Common.{Bool, ◌||◌, string_bytes}
+use Rattle.std.specs.Option.{option_copied}
 use Rattle.std.proofs.lemmas.Grind.{flat_map-append}
 use Rattle.std.proofs.lemmas.List.{length-append}
 use Rattle.std.proofs.lemmas.List.Concat.{flat_map-cons}
-use Rattle.log_tools.specs.Reports.{CountsLogs, HasReported, kind_of, text_by}
+use Rattle.log_tools.specs.Reports.{CountsLogs, HasReported, IsTimeByClock, IsTimeIf, kind_of}
+use Rattle.log_tools.specs.Reports.{text_by}
 use Rattle.log_tools.specs.declared.report_form.ReportForm.{ReportForm}
 use Rattle.log_tools.specs.declared.reporting.ReportOutput.{ReportOutput}
+use Rattle.jiff_core.specs.declared.timestamp.Timestamp.{Timestamp}
+use Rattle.moments.specs.LogTimes.{IsTextOf}
 use Rattle.moments.specs.declared.moment.NamedTime.{NamedTime}
 use Rattle.report.specs.Counts.{Counts}
 use Rattle.report.specs.Lines.{lines_in}
@@ -59,9 +63,13 @@ module _ (window : Window) where
         first.counted last.counted);
   }
 
+pub by_clock : (now : Timestamp) (moment : NamedTime) (text : List ℕ)
+    → IsTextOf now moment text → IsTimeByClock moment text
+by_clock now moment text is = record { now = now; text_is = is }
+
 pub has_reported : (n : ℕ) (since until : Option NamedTime) (form : ReportForm)
     (pictured paged : Bool) (output : ReportOutput) (window : Window) (start last : Report)
-    → is_some window.since ≡ is_some since → is_some window.until ≡ is_some until
+    → IsTimeIf since (option_copied window.since) → IsTimeIf until (option_copied window.until)
     → Counts window [] (pictured || paged) start → CountsLogs window n start last
     → string_bytes output.text ≡ text_by form (kind_of since until) last
     → HasPicture pictured output.picture → HasPage paged output.page

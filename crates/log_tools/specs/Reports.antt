@@ -1,7 +1,10 @@
 -- A report on logs. Nothing is known about the files of a device, so each log has some bytes. Nor
--- is anything known about its clock, so the window is between some times.
-use Rattle.std.specs.Prelude.{◌≡◌, ℕ, List, Option, None, length, flat_map, is_some, Bool, ◌||◌}
+-- is anything known about its clock, so how long ago something is depends on some present time.
+use Rattle.std.specs.Prelude.{◌≡◌, ℕ, List, Option, Some, None, length, flat_map, Bool, ◌||◌}
 use Rattle.std.specs.Prelude.{if◌then◌else◌, string_bytes}
+use Rattle.std.specs.Option.{option_copied}
+use Rattle.jiff_core.specs.declared.timestamp.Timestamp.{Timestamp}
+use Rattle.moments.specs.LogTimes.{IsTextOf}
 use Rattle.moments.specs.declared.moment.NamedTime.{NamedTime}
 use Rattle.report.specs.Counts.{Counts}
 use Rattle.report.specs.Exposition.{exposition}
@@ -17,10 +20,20 @@ use Rattle.report_page.specs.Pages.{HasPage}
 use Rattle.log_tools.specs.declared.report_form.ReportForm.{ReportForm}
 use Rattle.log_tools.specs.declared.reporting.ReportOutput.{ReportOutput}
 
--- the window has a first time if one was requested, and a last time if one was
+-- the text of the moment's time, at some present time; a time by RFC 3339 depends on none
+pub record IsTimeByClock (moment : NamedTime) (text : List ℕ) : Type 0 where
+  pub now : Timestamp
+  pub text_is : IsTextOf now moment text
+
+abbrev pub IsTimeIf : Option NamedTime → Option (List ℕ) → Type 0
+IsTimeIf (Some moment) (Some text) = IsTimeByClock moment text
+IsTimeIf None None = Unit {0}
+IsTimeIf moment text = ⊥
+
+-- the window begins with the time of `since` and ends before that of `until`
 pub record IsWindowOf (since until : Option NamedTime) (window : Window) : Type 0 where
-  pub since_is : is_some window.since ≡ is_some since
-  pub until_is : is_some window.until ≡ is_some until
+  pub since_is : IsTimeIf since (option_copied window.since)
+  pub until_is : IsTimeIf until (option_copied window.until)
 
 -- the lines of `n` logs are counted, whatever was counted before
 pub record CountsLogs (window : Window) (n : ℕ) (old new : Report) : Type 0 where

@@ -76,7 +76,6 @@ where
 }
 
 // Counts what is new, and writes the new state.
-#[tactic(auto, using(crate::proofs::Continued::continues))]
 fn continue_counts<R>(
     rt: &R,
     logs: &[&str],

@@ -1,9 +1,10 @@
 //! `report`: counts the lines of logs.
 
-ghost use Rattle.std.specs.Prelude.{◌≡◌, ◌||◌, [], IfOk, OnOk, is_some, length};
+ghost use Rattle.std.specs.Prelude.{◌≡◌, ◌||◌, [], IfOk, OnOk, is_some, length, option_map};
+ghost use Rattle.std.specs.Option.{option_copied};
 ghost use Rattle.std.specs.String.{string_bytes};
 ghost use Rattle.report.specs.Counts.{Counts};
-ghost use Rattle.log_tools.specs.Reports.{CountsLogs, HasReported, kind_of, text_by};
+ghost use Rattle.log_tools.specs.Reports.{CountsLogs, HasReported, IsTimeIf, kind_of, text_by};
 ghost use Rattle.markup.specs.WellFormed.{HasPicture};
 ghost use Rattle.report_page.specs.Pages.{HasPage};
 
@@ -195,7 +196,7 @@ fn kind_of(since: Option<NamedTime>, until: Option<NamedTime>) -> MetricKind
 }
 
 fn text_of<'a>(text: &'a Option<String>) -> Option<&'a str>
-    ensures { is_some result ≡ is_some text.now }
+    ensures { option_copied result ≡ option_map string_bytes text.now }
 {
     match text {
         Some(text) => Some(text.as_str()),
@@ -204,15 +205,17 @@ fn text_of<'a>(text: &'a Option<String>) -> Option<&'a str>
 }
 
 // The time of a moment, in the form of a log's lines.
+#[tactic(auto, using(crate::proofs::Logs::by_clock))]
 fn time_of<R>(rt: &R, moment: Option<NamedTime>) -> Result<Option<String>, ResourceFault>
 where
     R: AllocGlobal + Clock,
-    ensures { IfOk result (λ text. is_some text ≡ is_some moment) }
+    ensures { IfOk result (λ text. IsTimeIf moment (option_map string_bytes text)) }
 {
     let Some(moment) = moment else {
         return Ok(None);
     };
-    match time_text(rt.alloc(), moment, now_of(rt)?) {
+    let now = now_of(rt)?;
+    match time_text(rt.alloc(), moment, now) {
         Ok(text) => Ok(Some(text)),
         Err(_) => Err(ResourceFault::Memory),
     }

@@ -1,8 +1,8 @@
-use Rattle.std.proofs.Common.{◌∙◌, ap}
+use Rattle.std.proofs.Common.{◌∙◌, ap, List, Option, subst, sym, ℕ}
 use Rattle.report.specs.declared.metrics.MetricKind.{MetricKind}
 use Rattle.report.specs.declared.window.Window.{Window}
 use Rattle.log_tools.proofs.Logs.{has_reported}
-use Rattle.log_tools.specs.Reports.{text_by}
+use Rattle.log_tools.specs.Reports.{IsTimeIf, text_by}
 use Rattle.log_tools.proofs.reporting.output_of_logs.Goals as goal
 
 pub returns-in-Ok : goal.returns-in-Ok
@@ -13,8 +13,11 @@ returns-in-Ok g c =
     } in
     has_reported _ c.args.since c.args.until c.args.form c.args.drawn.picture c.args.drawn.page
     c.in-Ok.output window
-    c.args.report.now c.count_logs.new.report (c.text_of.ensures ∙ c.in_ok-since.ensures)
-    (c.text_of-2.ensures ∙ c.in_ok-until.ensures) (c.requires window)
+    c.args.report.now c.count_logs.new.report
+    (subst (λ (o : Option (List ℕ)). IsTimeIf c.args.since o) (sym c.text_of.ensures)
+    c.in_ok-since.ensures)
+    (subst (λ (o : Option (List ℕ)). IsTimeIf c.args.until o) (sym c.text_of-2.ensures)
+    c.in_ok-until.ensures) (c.requires window)
     c.in_ok-count_logs.ensures
     (c.in-Ok.ensures.text
     ∙ ap (λ (k : MetricKind). text_by c.args.form k c.count_logs.new.report)
