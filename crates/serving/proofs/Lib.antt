@@ -2,6 +2,7 @@ mod Staffing
 mod Ending
 mod Turns
 mod Closing
+mod Covers
 mod Leaving
 mod Zeros
 mod Moved

@@ -40,8 +40,8 @@ impl Counters {
     }
 }
 
-// `count` zeros.
-fn zeros(alloc: Global, count: usize) -> Result<Vec<u64>, AllocError>
+/// `count` zeros.
+pub(crate) fn zeros(alloc: Global, count: usize) -> Result<Vec<u64>, AllocError>
     ensures { IfOk result (λ v. AreZeros count v.items) }
 {
     Vec::from_elem(alloc, 0, count)

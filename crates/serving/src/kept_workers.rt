@@ -2,8 +2,6 @@
 
 ghost use Rattle.std.specs.Prelude.{◌≡◌, [], All, IfOk};
 
-use counter_store::CounterStore;
-use counters_file::KeptFile;
 use hot_swap::Watcher;
 use kept_cells::KeptPass;
 use shared_cells::SharedPass;
@@ -11,17 +9,17 @@ use std::alloc::{AllocError, Global};
 
 /// These workers, with passes that note what they take if there is a store.
 // open: whether an allocation fails.
-pub(crate) fn kept_workers<F: KeptFile + Drop>(
+pub(crate) fn kept_workers(
     alloc: Global,
     workers: Vec<(SharedPass, Watcher)>,
-    store: &mut Option<CounterStore<F>>,
+    is_stored: bool,
 ) -> Result<Vec<(KeptPass, Watcher)>, AllocError>
     requires new { All (λ worker. worker.0.events ≡ []) workers.items }
     ensures same { IfOk result (λ v. v.items ≡ workers.items) }
 {
     let mut kept = Vec::new(alloc);
     for (pass, watcher) in workers {
-        let Ok(pass) = kept_pass(alloc, pass, store) else {
+        let Ok(pass) = kept_pass(alloc, pass, is_stored) else {
             return Err(AllocError);
         };
         let Ok(()) = kept.push((pass, watcher)) else {
@@ -31,16 +29,13 @@ pub(crate) fn kept_workers<F: KeptFile + Drop>(
     Ok(kept)
 }
 
-fn kept_pass<F: KeptFile + Drop>(
-    alloc: Global,
-    pass: SharedPass,
-    store: &mut Option<CounterStore<F>>,
-) -> Result<KeptPass, AllocError>
+fn kept_pass(alloc: Global, pass: SharedPass, is_stored: bool) -> Result<KeptPass, AllocError>
     requires { pass.events ≡ [] }
     ensures { IfOk result (λ p. p ≡ pass) }
 {
-    match store {
-        Some(store) => store.pass(alloc, pass),
-        None => Ok(KeptPass::plain(pass)),
+    if is_stored {
+        KeptPass::noting(alloc, pass)
+    } else {
+        Ok(KeptPass::plain(pass))
     }
 }

@@ -1,8 +1,13 @@
-//! The log lines of a server's end: that it has ended, and a line for each counter that isn't 0.
-//! They wait for places in the log's queue, so that none is lost if the log is read in time.
+//! What a server leaves, and the log lines of its end: that it has ended, and a line for each
+//! counter that isn't 0. They wait for places in the log's queue, so that none is lost if the log is
+//! read in time.
 
-ghost use Rattle.std.specs.Prelude.{◌≡◌, ◌+◌, ◌<◌, length, slice_index};
+ghost use Rattle.std.specs.Prelude.{◌≡◌, ◌+◌, ◌<◌, IfErr, IfOk, IsTrue, length, slice_index};
+ghost use Rattle.serving.specs.Staffed.{IsEndFault};
 
+use crate::counters::Counters;
+use crate::ended::Ended;
+use crate::serving_fault::ServingFault;
 use access_log::{Counter, LogEvent};
 use cells::{CellArray, CellNo};
 use hot_swap::SwapFault;
@@ -14,10 +19,46 @@ use std::time::{Clock, Instant};
 /// How long all these lines wait for places.
 const END_SECONDS: u64 = 4;
 
-/// Logs that a server has ended, if there is a log. The line has H2 unless `is_known`: each
-/// worker's watcher could be read. Then logs the last values of its counters, array after array, up
-/// to the first line that gets no place in time.
-pub(crate) fn note_end<H>(
+/// Logs that a server has ended, with the last values of its counters, and returns what it leaves.
+/// Returns H2 unless each worker's watcher could be read. `values` is a buffer with a place for
+/// each cell.
+pub(crate) fn left_by<H>(
+    rt: &H,
+    log: Option<&LogQueue>,
+    ended: Ended,
+    values: Vec<u64>,
+) -> Result<Counters, ServingFault>
+where
+    H: Wait + AllocGlobal + Clock,
+    requires { length values.items ≡ 8192 }
+    ensures known { IfOk result (λ _. IsTrue ended.is_known) }
+    ensures halted { IfOk result (λ left. left.halted ≡ ended.halted) }
+    ensures arrays { IfOk result (λ left. left.directory ≡ ended.directory) }
+    ensures values { IfOk result (λ left. left.values.items ≡ ended.closed.values) }
+    ensures fault { IfErr result IsEndFault }
+{
+    let Ended {
+        closed,
+        directory,
+        halted,
+        is_known,
+    } = ended;
+    note_end(rt, log, is_known, directory.arrays(), &closed);
+    let values = last_values(&closed, values);
+    if !is_known {
+        return Err(ServingFault::Publisher(SwapFault::NoPlace));
+    }
+    Ok(Counters {
+        halted,
+        directory,
+        values,
+    })
+}
+
+// Logs that a server has ended, if there is a log. The line has H2 unless `is_known`: each worker's
+// watcher could be read. Then logs the last values of its counters, array after array, up to the
+// first line that gets no place in time.
+fn note_end<H>(
     rt: &H,
     log: Option<&LogQueue>,
     is_known: bool,
@@ -41,8 +82,8 @@ where
     }
 }
 
-/// The last values of all cells, by their numbers, in a buffer that has a place for each.
-pub(crate) fn last_values(closed: &Closed, mut buffer: Vec<u64>) -> Vec<u64>
+// The last values of all cells, by their numbers, in a buffer that has a place for each.
+fn last_values(closed: &Closed, mut buffer: Vec<u64>) -> Vec<u64>
     requires { length buffer.items ≡ 8192 }
     ensures { result.items ≡ closed.now.values }
 {

@@ -10,11 +10,13 @@
 //! See docs/DECISIONS.md, "The server".
 #![tactic(auto)]
 
+mod bell;
 mod counters;
 mod ended;
 mod kept_workers;
 mod last_values;
 mod manifests;
+mod new_staff;
 mod news;
 mod server;
 mod serving_fault;
@@ -25,6 +27,7 @@ mod worker_list;
 
 pub use counters::Counters;
 pub use manifests::Manifests;
+pub use new_staff::staff;
 pub use server::{Server, prepare};
 pub use serving_fault::ServingFault;
-pub use staffed::{StaffedServer, staff};
+pub use staffed::StaffedServer;

@@ -1,40 +1,30 @@
-//! A server with all that it serves with: its counters, the publisher of its rulesets with the
-//! directory of its arrays, and its workers. These are made before anything is served.
+//! A server with all that it serves with, until the operator stops it.
 
-ghost use Rattle.std.specs.Prelude.{◌≡◌, ◌+◌, ◌≤◌, [], ◌∷◌, IfOk, IfErr, IfSome, OnOk, length};
-ghost use Rattle.std.specs.Prelude.{map, string_bytes, vec_capacity};
+ghost use Rattle.std.specs.Prelude.{◌≡◌, ◌+◌, ◌≤◌, [], IfOk, IfErr, IfSome, OnOk, length, map};
+ghost use Rattle.std.specs.Prelude.{string_bytes, vec_capacity};
 ghost use Rattle.std.specs.Io.KnownBytes.{Appends};
 ghost use Rattle.std.specs.Option.{is_some};
-ghost use Rattle.cells.specs.Events.{AreCells};
-ghost use Rattle.ruleset.specs.Rules.{KnowsOnly};
 ghost use Rattle.workers.specs.Texts.{serving_line};
-ghost use Rattle.halts.specs.Halts.{served};
-ghost use Rattle.operator.specs.Control.{KnowOnlyItsArrays, ServesLastLoad};
+ghost use Rattle.operator.specs.Control.{KnowOnlyItsArrays};
 ghost use Rattle.serving.specs.Ended.{LeavesOneWorld};
-ghost use Rattle.serving.specs.Staff.{IsLoadAtStart, IsStaff};
-ghost use Rattle.serving.specs.Staffed.{IsEndFault, IsStaffFault};
+ghost use Rattle.serving.specs.Staff.{IsStaff};
+ghost use Rattle.serving.specs.Staffed.{IsEndFault};
 
 use crate::counters::Counters;
-use crate::ended::{Ended, close_cells};
-use crate::last_values::{last_values, note_end};
+use crate::ended::close_cells;
+use crate::last_values::left_by;
 use crate::serving_fault::ServingFault;
 use crate::stored::run_stored;
-use crate::worker_list::worker_list;
-use bounded_files::ResourceFault;
 use counter_store::CounterStore;
 use counters_file::KeptFile;
-use halts::{halts_are_so, served_rules};
-use hot_swap::{Publisher, SwapFault, Watcher};
+use hot_swap::Watcher;
 use kept_cells::KeptCells;
-use operator::{Control, LastLoad, Loader, loads_go_on};
+use operator::{Control, Loader, loads_go_on};
 use restart_laws::servers_count_as_one;
-use ruleset::LoadedRuleset;
-use server_log::utc_now;
 use shared_cells::{SharedCells, SharedPass, passes_gain_lists};
-use std::alloc::Global;
 use std::io::Write;
 use std::net::{Net, TcpListener, TcpStream};
-use std::sync::{Arc, Wait};
+use std::sync::Wait;
 use std::thread::Threads;
 use std::time::Clock;
 use thread_laws::{threads_are_one_world, threads_grant_quotas};
@@ -43,113 +33,21 @@ use workers::{Ports, ServeOptions, answers_are_runs};
 /// A server that has its counters, its publisher and its workers. `serve` or `close` ends it; it
 /// isn't dropped otherwise.
 pub struct StaffedServer {
-    ports: Ports,
-    cells: SharedCells,
+    pub(crate) ports: Ports,
+    pub(crate) cells: SharedCells,
     /// The operator's pass.
-    pass: SharedPass,
-    control: Control,
-    workers: Vec<(SharedPass, Watcher)>,
+    pub(crate) pass: SharedPass,
+    pub(crate) control: Control,
+    pub(crate) workers: Vec<(SharedPass, Watcher)>,
     /// The buffer for all passes when they are returned.
-    room: Vec<SharedPass>,
+    pub(crate) room: Vec<SharedPass>,
     /// The values of the counters: those that they opened with, and at the end their last ones.
-    values: Vec<u64>,
+    pub(crate) values: Vec<u64>,
     ghost staff: { IsStaff cells pass control.publishing.known workers.items },
     ghost only: { KnowOnlyItsArrays control },
     ghost empty: { room.items ≡ [] },
     ghost enough: { length workers.items + 1 ≤ vec_capacity room },
     ghost many: { length values.items ≡ 8192 },
-}
-
-// Room for as many passes.
-fn room_for(alloc: Global, count: usize) -> Result<Vec<SharedPass>, ServingFault>
-    ensures items { IfOk result (λ room. room.items ≡ []) }
-    ensures capacity { IfOk result (λ room. count ≤ vec_capacity room) }
-    ensures fault { IfErr result IsStaffFault }
-{
-    match Vec::with_capacity(alloc, count) {
-        Ok(room) => Ok(room),
-        Err(_) => Err(ServingFault::Resource(ResourceFault::Memory)),
-    }
-}
-
-/// A server at these ports, with `workers` workers, whose counters open with these values. While
-/// these apps are halted, it serves this ruleset, which was loaded from the path, as generation 1;
-/// nothing else is installed. Returns S1 if the counters can't be allocated, H1 if the publisher or
-/// one of its watchers can't, and B4 if other memory can't.
-// open: when B4 is returned.
-pub fn staff<H>(
-    rt: &H,
-    ports: Ports,
-    loaded: LoadedRuleset,
-    path: String,
-    halted: Vec<String>,
-    values: Vec<u64>,
-    workers: usize,
-) -> Result<StaffedServer, ServingFault>
-where
-    H: Wait + AllocGlobal + Clock,
-    requires some { 1 ≤ workers }
-    requires few { workers ≤ 64 }
-    requires cells { AreCells values.items }
-    requires only { KnowsOnly loaded.directory loaded.rules }
-    ensures ports { IfOk result (λ s. s.ports ≡ ports) }
-    ensures first { IfOk result (λ s. s.control.publishing.latest.generation ≡ 1) }
-    ensures rules { IfOk result (λ s. ServesLastLoad s.control) }
-    ensures known { IfOk result (λ s. s.control.publishing.known.rulesets
-        ≡ served (map string_bytes halted.items) loaded.rules ∷ []) }
-    ensures halted { IfOk result (λ s. s.control.halted ≡ map string_bytes halted.items) }
-    ensures arrays { IfOk result (λ s. s.control.arrays ≡ loaded.directory) }
-    ensures last { IfOk result (λ s. IsLoadAtStart loaded (string_bytes path) s.control.last) }
-    ensures opening { IfOk result (λ s. s.cells.opening ≡ values.items) }
-    ensures workers { IfOk result (λ s. length s.workers.items ≡ workers) }
-    ensures fault { IfErr result IsStaffFault }
-{
-    halts_are_so();
-    let alloc = rt.alloc();
-    let LoadedRuleset {
-        rules,
-        directory,
-        digest,
-    } = loaded;
-    let Ok(rules) = Arc::new(alloc, rules) else {
-        return Err(ServingFault::Resource(ResourceFault::Memory));
-    };
-    let Ok(served) = served_rules(alloc, &rules, &halted) else {
-        return Err(ServingFault::Resource(ResourceFault::Memory));
-    };
-    let room = room_for(alloc, workers + 1)?;
-    let (cells, mut passes) = match SharedCells::opened(alloc, &values, workers + 1) {
-        Ok(made) => made,
-        Err(fault) => return Err(ServingFault::Cells(fault)),
-    };
-    let Some(pass) = passes.pop() else {
-        unreachable!()
-    };
-    let mut publisher = match Publisher::new(rt, alloc, served, workers) {
-        Ok(publisher) => publisher,
-        Err(fault) => return Err(ServingFault::Publisher(fault)),
-    };
-    let last = LastLoad {
-        rules,
-        digest,
-        path,
-        time: utc_now(rt),
-    };
-    match worker_list(alloc, passes, &mut publisher) {
-        Ok(workers) => Ok(StaffedServer {
-            ports,
-            cells,
-            pass,
-            control: Control::new(publisher, directory, last, halted),
-            workers,
-            room,
-            values,
-        }),
-        Err(fault) => {
-            publisher.close(rt);
-            Err(fault)
-        }
-    }
 }
 
 impl StaffedServer {
@@ -236,24 +134,12 @@ impl StaffedServer {
                 return Err(fault);
             }
         };
-        let Ended {
-            closed,
-            directory,
-            halted,
-            is_known,
-        } = close_cells(cells.into_cells(), back, room);
-        note_end(rt, service.log, is_known, directory.arrays(), &closed);
-        let values = last_values(&closed, values);
+        let ended = close_cells(cells.into_cells(), back, room);
+        let left = left_by(rt, service.log, ended, values);
         control.close(rt);
-        if is_known {
-            let counters = Counters {
-                halted,
-                directory,
-                values,
-            };
-            Ok((counters, file))
-        } else {
-            Err(ServingFault::Publisher(SwapFault::NoPlace))
+        match left {
+            Ok(counters) => Ok((counters, file)),
+            Err(fault) => Err(fault),
         }
     }
 

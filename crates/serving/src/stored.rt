@@ -8,9 +8,10 @@ ghost use Rattle.workers.specs.Back.{ServerBack};
 ghost use Rattle.workers.specs.Texts.{serving_line};
 ghost use Rattle.serving.specs.Staffed.{IsEndFault};
 
+use crate::bell::{StoreBell, shared_of};
 use crate::kept_workers::kept_workers;
 use crate::serving_fault::ServingFault;
-use crate::storing::{StoreBell, file_of, storing_of};
+use crate::storing::{file_of, storing_of};
 use bounded_files::ResourceFault;
 use counter_store::CounterStore;
 use counters_file::KeptFile;
@@ -34,7 +35,7 @@ pub(crate) fn run_stored<H, L, F, O>(
     ports: Ports,
     loader: &L,
     cells: &KeptCells,
-    mut store: Option<CounterStore<F>>,
+    store: Option<CounterStore<F>>,
     service: ServeOptions<'_>,
     pass: SharedPass,
     control: &mut Control,
@@ -58,12 +59,16 @@ where
         (serving_line control.old.publishing.latest.generation)) }
     ensures fault { IfErr result IsEndFault }
 {
-    let is_kept = store.is_some();
-    let Ok(kept) = kept_workers(rt.alloc(), workers, &mut store) else {
+    let Ok(kept) = kept_workers(rt.alloc(), workers, store.is_some()) else {
         return Err(ServingFault::Resource(ResourceFault::Memory));
     };
-    let bell = StoreBell::of(&store);
-    let cover = StoreCover::new(rt, is_kept);
+    let Ok(bell) = StoreBell::of(&store) else {
+        return Err(ServingFault::Resource(ResourceFault::Memory));
+    };
+    let Ok(shared) = shared_of(&store) else {
+        return Err(ServingFault::Resource(ResourceFault::Memory));
+    };
+    let cover = StoreCover::of(rt, shared);
     let parts = ServerParts {
         loader,
         cells,
@@ -71,7 +76,7 @@ where
         bell: &bell,
         service,
     };
-    let storing = storing_of(store, &bell);
+    let storing = storing_of(store, &bell, cells, service.log);
     let pass = KeptPass::plain(pass);
     match run(rt, ports, &parts, storing, pass, control, kept, out) {
         Ok((back, storing)) => Ok((back, file_of(storing))),

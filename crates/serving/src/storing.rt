@@ -1,127 +1,85 @@
-//! The thread that stores a server's counters in their file, and the bell by which others wake it.
+//! The thread that stores a server's counters in their file.
 
+ghost use Rattle.std.specs.Prelude.{◌≡◌, IfOk, option_map};
+ghost use Rattle.cells.specs.Events.{AreCells};
+
+use crate::bell::StoreBell;
+use crate::counters::zeros;
 use crate::news::News;
+use cells::CellNo;
 use counter_store::CounterStore;
-use counters_file::KeptFile;
-use kept_cells::Kept;
-use operator::Control;
-use std::alloc::Global;
-use std::sync::atomic::{AtomicBool, Ordering};
-use std::sync::{Arc, Mutex, Wait};
+use counters_file::{CountersFault, KeptFile};
+use kept_cells::{KeptCells, StoreCover};
+use server_log::{LogQueue, note_counters, seconds_from_now};
+use std::alloc::{AllocError, Global};
+use std::sync::Wait;
 use std::thread;
-use std::time::{Clock, Duration};
-use workers::{Bell, CounterThread};
+use std::time::{Clock, Duration, Instant};
+use workers::{CounterThread, StoresFor};
 
-/// How long the thread waits for its bell. It looks for news that often.
-const MOST_SECONDS: u64 = 1;
+/// How old the counters in the file may be that no reply waits for.
+const MOST_SECONDS: u64 = 60;
 
-/// How often it looks if it can't be woken.
-const LOOK_MILLIS: u64 = 10;
-
-/// How long it waits after a commit that failed, so that a failing disk gets few writes.
+/// How long the thread waits after a commit that failed, so that a failing disk gets few writes.
 const FAILED_MILLIS: u64 = 250;
-
-/// What the thread shares with the others besides the ceilings.
-#[derive(Drop)]
-pub(crate) struct StoreBell {
-    kept: Option<Arc<Kept>>,
-    news: Mutex<Option<News>>,
-    has_ended: AtomicBool,
-}
-
-impl StoreBell {
-    /// The bell of a store's thread; without a store it does nothing.
-    pub(crate) fn of<F: KeptFile + Drop>(store: &Option<CounterStore<F>>) -> StoreBell {
-        let kept = match store {
-            Some(store) => store.shared(),
-            None => None,
-        };
-        StoreBell {
-            kept,
-            news: Mutex::new(None),
-            has_ended: AtomicBool::new(false),
-        }
-    }
-
-    fn take<H: Wait>(&self, rt: &H) -> Option<News> {
-        let mut place = self.news.lock(rt);
-        place.take()
-    }
-
-    fn put_back<H: Wait>(&self, rt: &H, news: News) {
-        let mut place = self.news.lock(rt);
-        if place.is_none() {
-            *place = Some(news);
-        }
-    }
-
-    // Waits for the bell. If its handle couldn't be made, it looks often.
-    fn wait<H: Wait + Clock>(&self, rt: &H) {
-        match &self.kept {
-            Some(kept) => kept.wait(rt, Duration::from_secs(MOST_SECONDS)),
-            None => thread::sleep(rt, Duration::from_millis(LOOK_MILLIS)),
-        }
-    }
-
-    fn ring(&self) {
-        if let Some(kept) = &self.kept {
-            kept.ring();
-        }
-    }
-}
-
-impl Bell for StoreBell {
-    /// If an allocation fails, the arrays are sent after the next load; until then replies that
-    /// take from a new quota are withheld.
-    fn note<H>(&self, rt: &H, control: &Control)
-    where
-        H: Wait + AllocGlobal,
-    {
-        if self.kept.is_none() {
-            return;
-        }
-        let Ok(news) = News::of(rt.alloc(), control) else {
-            return;
-        };
-        let mut place = self.news.lock(rt);
-        *place = Some(news);
-        drop(place);
-        self.ring();
-    }
-
-    fn end(&self) {
-        self.has_ended.store(true, Ordering::SeqCst);
-        self.ring();
-    }
-}
 
 /// What the thread does with its store.
 #[derive(Drop)]
-pub(crate) struct Storing<'a, F: Drop> {
+pub(crate) struct Storing<'b, 'c, 'l, F: Drop> {
     store: CounterStore<F>,
-    bell: &'a StoreBell,
+    bell: &'b StoreBell,
+    cells: &'c KeptCells,
+    log: Option<&'l LogQueue>,
+    /// When all counters are stored next; at once if it isn't known.
+    due: Option<Instant>,
+    /// Whether the log has last said that the file can't be written.
+    is_failing: bool,
 }
 
 /// What the thread of a store does, if there is a store.
-pub(crate) fn storing_of<'a, F: KeptFile + Drop>(
+pub(crate) fn storing_of<'b, 'c, 'l, F: KeptFile + Drop>(
     store: Option<CounterStore<F>>,
-    bell: &'a StoreBell,
-) -> Option<Storing<'a, F>> {
+    bell: &'b StoreBell,
+    cells: &'c KeptCells,
+    log: Option<&'l LogQueue>,
+) -> Option<Storing<'b, 'c, 'l, F>>
+    ensures { option_map (λ s. s.store.ledger.ceilings) result
+        ≡ option_map (λ s. s.ledger.ceilings) store }
+{
     match store {
-        Some(store) => Some(Storing { store, bell }),
+        Some(store) => Some(Storing {
+            store,
+            bell,
+            cells,
+            log,
+            due: None,
+            is_failing: false,
+        }),
         None => None,
     }
 }
 
 /// The file of a thread that has ended, for the last commit.
-pub(crate) fn file_of<F: KeptFile + Drop>(storing: Option<Storing<'_, F>>) -> Option<F> {
+pub(crate) fn file_of<F: KeptFile + Drop>(storing: Option<Storing<'_, '_, '_, F>>) -> Option<F> {
     match storing {
-        Some(Storing { store, bell: _bell }) => Some(store.into_file()),
+        Some(storing) => Some(storing.into_file()),
         None => None,
     }
 }
 
-impl<'a, F: KeptFile + Drop> Storing<'a, F> {
+impl<'b, 'c, 'l, F: KeptFile + Drop> Storing<'b, 'c, 'l, F> {
+    fn into_file(self) -> F {
+        let Storing {
+            store,
+            bell: _bell,
+            cells: _cells,
+            log: _log,
+            due: _due,
+            is_failing: _is_failing,
+        } = self;
+        store.into_file()
+    }
+
     // Adopts the news. If an allocation fails they stay, unless there are newer ones.
     fn learn<H: Wait + AllocGlobal>(&mut self, rt: &H) {
         let Some(news) = self.bell.take(rt) else {
@@ -132,12 +90,86 @@ impl<'a, F: KeptFile + Drop> Storing<'a, F> {
         }
     }
 
-    // Commits what is wanted. A worker whose reply waits sees that the commit failed.
-    fn commit<H: AllocGlobal + Clock>(&mut self, rt: &H) {
-        if self.store.commit(rt.alloc()).is_err() {
-            thread::sleep(rt, Duration::from_millis(FAILED_MILLIS));
+    // Commits what is wanted, and once a minute what has changed. A worker whose reply waits sees
+    // that the commit failed.
+    fn commit<H>(&mut self, rt: &H)
+    where
+        H: Wait + AllocGlobal + Clock,
+    {
+        let is_due = is_due(rt, self.due);
+        match committed(rt.alloc(), &mut self.store, self.cells, is_due) {
+            Ok(is_new) => {
+                if is_new || is_due {
+                    self.due = seconds_from_now(rt, MOST_SECONDS);
+                }
+                self.note(rt, None);
+            }
+            Err(fault) => {
+                self.note(rt, Some(fault));
+                thread::sleep(rt, Duration::from_millis(FAILED_MILLIS));
+            }
         }
     }
+
+    // Logs that the file can't be written from now on, or that it can be again. If an allocation
+    // fails, the next commit logs it.
+    fn note<H>(&mut self, rt: &H, fault: Option<CountersFault>)
+    where
+        H: Wait + AllocGlobal + Clock,
+    {
+        if fault.is_some() != self.is_failing && log_change(rt, self.log, fault) {
+            self.is_failing = fault.is_some();
+        }
+    }
+}
+
+// Whether a moment is past. True if the clock can't be read.
+fn is_due<H: Clock>(rt: &H, moment: Option<Instant>) -> bool {
+    match (moment, Instant::now(rt)) {
+        (Some(moment), Ok(now)) => moment <= now,
+        _ => true,
+    }
+}
+
+// Logs a change, if there is a log. False if an allocation fails.
+fn log_change<H>(rt: &H, log: Option<&LogQueue>, fault: Option<CountersFault>) -> bool
+where
+    H: Wait + AllocGlobal + Clock,
+{
+    let Some(queue) = log else {
+        return true;
+    };
+    let Some(fault) = fault else {
+        note_counters(rt, queue, None);
+        return true;
+    };
+    let Ok(text) = fault.to_string(rt.alloc()) else {
+        return false;
+    };
+    note_counters(rt, queue, Some(text.as_str()));
+    true
+}
+
+// Commits what is wanted with the present values of the other counters.
+fn committed<F: KeptFile + Drop>(
+    alloc: Global,
+    store: &mut CounterStore<F>,
+    cells: &KeptCells,
+    is_due: bool,
+) -> Result<bool, CountersFault> {
+    let Ok(present) = present_values(alloc, cells) else {
+        return Err(CountersFault::Memory);
+    };
+    store.commit(alloc, &present, is_due)
+}
+
+// The values of all cells, each at some moment.
+fn present_values(alloc: Global, cells: &KeptCells) -> Result<Vec<u64>, AllocError>
+    ensures { IfOk result (λ values. AreCells values.items) }
+{
+    let mut values = zeros(alloc, CellNo::COUNT as usize)?;
+    cells.copy_values(values.as_mut_slice());
+    Ok(values)
 }
 
 // Whether the store adopts the news.
@@ -148,7 +180,7 @@ fn adopts<F: KeptFile + Drop>(alloc: Global, store: &mut CounterStore<F>, news: 
     }
 }
 
-impl<'a, F: KeptFile + Drop> CounterThread for Storing<'a, F> {
+impl<'b, 'c, 'l, F: KeptFile + Drop> CounterThread for Storing<'b, 'c, 'l, F> {
     fn run<H>(&mut self, rt: &H)
     where
         H: Wait + AllocGlobal + Clock,
@@ -156,10 +188,22 @@ impl<'a, F: KeptFile + Drop> CounterThread for Storing<'a, F> {
         for _ in rt.forever() {
             self.learn(rt);
             self.commit(rt);
-            if self.bell.has_ended.load(Ordering::SeqCst) {
+            if self.bell.has_ended() {
                 return;
             }
             self.bell.wait(rt);
         }
     }
+}
+
+impl<'b, 'c, 'l, 'h, F, H> StoresFor<StoreCover<'h, H>> for Storing<'b, 'c, 'l, F>
+where
+    F: KeptFile + Drop,
+    H: Clock,
+{
+    ghost use Rattle.std.specs.Prelude.{◌≡◌, Some, option_map};
+    ghost use Rattle.std.specs.Arc.{arc_value};
+
+    ghost stores_for = { λ storing cover.
+        option_map arc_value cover.kept ≡ Some storing.store.ledger.ceilings };
 }

@@ -1,14 +1,15 @@
 //! A server whose counters are stored: while that fails, a reply that takes from a quota is
-//! withheld, and others aren't.
+//! withheld, and others aren't. The log says when it begins to fail, and when it no longer does.
 
 use crate::impaired::Impaired;
 use crate::loopback::{ONE_APP, has_answer, reply, sent};
 use crate::manifests::write_files;
-use crate::servers::service_of;
+use crate::whole_log::{lines_in, logging_to};
 use bounded_files::Device;
 use counter_store::CounterStore;
 use counters_file::{CountersFault, KeptFile};
 use operator_request::OperatorRequest;
+use server_log::LogQueue;
 use serving::{Counters, Manifests, Server, prepare};
 use std::alloc::Global;
 use std::net::SocketAddr;
@@ -24,6 +25,15 @@ const OTHER_APP: &str = "POST /service/update2/json HTTP/1.1\r\nContent-Length: 
 
 /// How a reply to a request begins.
 const SENT: &str = "HTTP/1.1 200 OK\r\n";
+
+/// What lines have that say whether the file can be written.
+const KIND: &str = "\"kind\":\"counters\"";
+
+/// The end of a line that it can't be.
+const FAILS: &str = "\"kind\":\"counters\",\"refusal\":\"K4 Store\"}\n";
+
+/// The end of a line that it can be again.
+const SUCCEEDS: &str = "\"kind\":\"counters\"}\n";
 
 /// A file that can't be written while the flag is set.
 #[derive(Drop)]
@@ -42,7 +52,7 @@ impl<'a> KeptFile for FailingFile<'a> {
 
     fn replace(&mut self, _bytes: &[u8]) -> Result<(), CountersFault> {
         if self.fails.load(Ordering::SeqCst) {
-            return Err(CountersFault::Memory);
+            return Err(CountersFault::Store);
         }
         Ok(())
     }
@@ -85,8 +95,8 @@ fn are_withheld<T: Abort + Threads + Sync>(
     is_sent && is_withheld && is_other_sent && is_sent_again && is_stopped
 }
 
-/// Serves with two workers and this file.
-fn served<T>(own: &Impaired<'_, T>, server: Server, fails: &AtomicBool) -> bool
+/// Serves with two workers and this file, and logs to the queue.
+fn served<T>(own: &Impaired<'_, T>, server: Server, fails: &AtomicBool, queue: &LogQueue) -> bool
 where
     T: Abort + Threads + Wait + Sync,
 {
@@ -104,12 +114,24 @@ where
     let disk = Device::new(own.rt);
     let server = server.staffed(own, 2).expect(own.handles, "a staff");
     let mut out = Vec::new(alloc);
-    let end = server.serve(own, &Manifests::of(&disk), store, service_of(10), &mut out);
+    let service = logging_to(queue);
+    let end = server.serve(own, &Manifests::of(&disk), store, service, &mut out);
     drop(end.expect(own.handles, "an end"));
     true
 }
 
-/// Whether a server of the manifest with a quota of a thousand serves as it should.
+/// Whether a log has one line that the file can't be written, and then one that it can be again.
+fn has_changes(log: &str) -> bool {
+    let Some((before, after)) = log.split_once(FAILS) else {
+        return false;
+    };
+    let Some((meanwhile, later)) = after.split_once(SUCCEEDS) else {
+        return false;
+    };
+    !before.contains(KIND) && !meanwhile.contains(KIND) && !later.contains(KIND)
+}
+
+/// Whether a server of the manifest with a quota of a thousand serves as it should, and logs it.
 fn is_right<T>(own: &Impaired<'_, T>) -> bool
 where
     T: Abort + Threads + Wait + Sync,
@@ -119,12 +141,13 @@ where
     let server = server.expect(own.handles, "a server");
     let (clients, operator) = (server.ports().service(), server.ports().operator().port());
     let fails = AtomicBool::new(false);
+    let (queue, pieces) = LogQueue::new(own.rt.alloc(), 8080).expect(own.handles, "a queue");
     let (is_right, is_served) = thread::join(
         own.handles,
         || are_withheld(own, clients, operator, &fails),
-        || served(own, server, &fails),
+        || served(own, server, &fails, &queue),
     );
-    is_right && is_served
+    is_right && is_served && has_changes(lines_in(own, &pieces).as_str())
 }
 
 #[test]

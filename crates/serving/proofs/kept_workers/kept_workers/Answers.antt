@@ -1,4 +1,4 @@
-use Rattle.std.proofs.Common.{List, All, [], ◌≡◌, ap, subst}
+use Rattle.std.proofs.Common.{All, [], ◌≡◌, ap, subst}
 use Rattle.std.proofs.lemmas.List.Elements.{All-tail}
 use Rattle.shared_cells.specs.Passes.{PassView}
 use Rattle.hot_swap.specs.Published.{KnownPrefix}
@@ -6,7 +6,7 @@ use Rattle.serving.proofs.Moved.{moved}
 use Rattle.serving.proofs.kept_workers.kept_workers.Goals as goal
 
 pub loop-pass-preserved : goal.loop-pass-preserved
-loop-pass-preserved g c =
+loop-pass-preserved c =
     let P : PassView × KnownPrefix → Type 0 = λ w. w.0.events ≡ [] in
     let split = c.in-Some.ensures.steps.0 in
     record {

@@ -1,7 +1,4 @@
-use Rattle.std.proofs.Common.{◌≡◌, [], ◌∷◌, All, map, string_bytes, sym, ap, subst, ◌∙◌, arith}
-use Rattle.std.proofs.Common.{rules}
-use Rattle.std.specs.Arc.{arc_value}
-use Rattle.halts.specs.Halts.{served}
+use Rattle.std.proofs.Common.{[], ◌∷◌, All, map, string_bytes, sym, ap, subst, ◌∙◌, arith}
 use Rattle.hot_swap.specs.Latest.{Publishing}
 use Rattle.hot_swap.specs.Published.{KnownPrefix}
 use Rattle.operator.specs.Control.{LastLoad}
@@ -9,7 +6,7 @@ use Rattle.ruleset.specs.Rules.{Rules}
 use Rattle.serving.specs.Staff.{IsNewWorker}
 use Rattle.serving.proofs.Leaving.{knows_first}
 use Rattle.serving.proofs.Staffing.{is_staff}
-use Rattle.serving.proofs.staffed.staff.Goals as goal
+use Rattle.serving.proofs.new_staff.staff.Goals as goal
 
 pub invariant_of-result : goal.invariant_of-result
 invariant_of-result g c =
@@ -25,10 +22,9 @@ invariant_of-result g c =
     (λ new. subst (λ (b : KnownPrefix). All (IsNewWorker cells.table b) workers) (sym known)
     (c.in-Ok-worker_list.ensures.each cells.table new)) in
     let halted = map string_bytes c.args.halted.items in
-    let served_is : arc_value c.in-Ok-served_rules.served ≡ served halted c.args.loaded.rules =
-    search rules in
+    let rules = c.in-Ok.ensures in
     let listed = ap (λ (b : KnownPrefix). b.rulesets) known ∙ c.in-Ok-new.ensures.listed
-    ∙ ap (λ (r : Rules). r ∷ []) served_is in
+    ∙ ap (λ (r : Rules). r ∷ []) (rw c.deref.ensures.value at rules.served) in
     let all = is.all in
     let many = made.many in
     let room = c.in_ok-room.ensures.capacity in
@@ -37,7 +33,7 @@ invariant_of-result g c =
       only = knows_first c.halts_are_so.ensures.arrays c.new-in-Ok-worker_list.result
           c.args.loaded.directory c.args.loaded.rules halted c.new-in-Ok-worker_list.ensures.arrays
           (ap (λ (l : LastLoad). l.rules) c.new-in-Ok-worker_list.ensures.last
-          ∙ c.in-Ok.ensures.ok)
+          ∙ rules.loaded)
           listed c.requires.only;
       empty = c.in_ok-room.ensures.items;
       enough = omega (arith, all, many, room);

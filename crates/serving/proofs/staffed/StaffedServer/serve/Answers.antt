@@ -21,19 +21,19 @@ pub run_stored-requires-clause-new : goal.run_stored-requires-clause-new
 run_stored-requires-clause-new g c κs within =
     new_are_unused c.args.self.cells.table _ c.args.self.workers.items c.args.self.staff.each
 
-pub close_cells-closed-requires-clause-all : goal.close_cells-closed-requires-clause-all
-close_cells-closed-requires-clause-all g c =
+pub close_cells-ended-requires-clause-all : goal.close_cells-ended-requires-clause-all
+close_cells-ended-requires-clause-all g c =
     let many = AllZip-long _ c.args.self.workers.items c.in-Ok.back.workers.items
     c.in-Ok.ensures.back.workers in
     rw (c.into_cells.ensures, c.of-cells.ensures)
     (c.args.self.staff.all ∙ ap (λ (n : ℕ). n + 1) (sym many))
 
-pub close_cells-closed-requires-clause-operator : goal.close_cells-closed-requires-clause-operator
-close_cells-closed-requires-clause-operator g c =
+pub close_cells-ended-requires-clause-operator : goal.close_cells-ended-requires-clause-operator
+close_cells-ended-requires-clause-operator g c =
     rw c.into_cells.ensures c.in-Ok.ensures.back.operator.belongs_yet
 
-pub close_cells-closed-requires-clause-workers : goal.close_cells-closed-requires-clause-workers
-close_cells-closed-requires-clause-workers g c =
+pub close_cells-ended-requires-clause-workers : goal.close_cells-ended-requires-clause-workers
+close_cells-ended-requires-clause-workers g c =
     let back = c.in-Ok.ensures.back in
     let operator = back.operator in
     let onwards = c.loads_go_on.ensures.onwards c.args.self.control back.last operator.lines
@@ -45,21 +45,21 @@ close_cells-closed-requires-clause-workers g c =
     (ap (λ (b : KnownPrefix). b.publisher) back.published_are ∙ onwards.publisher)
     c.args.self.staff.each (rw c.of-cells.ensures at back.workers))
 
-pub close_cells-closed-requires-clause-generation :
-    goal.close_cells-closed-requires-clause-generation
-close_cells-closed-requires-clause-generation g c =
+pub close_cells-ended-requires-clause-generation :
+    goal.close_cells-ended-requires-clause-generation
+close_cells-ended-requires-clause-generation g c =
     c.in-Ok.ensures.back.published.last.generation_is
 
-pub close_cells-closed-requires-clause-enough : goal.close_cells-closed-requires-clause-enough
-close_cells-closed-requires-clause-enough g c =
+pub close_cells-ended-requires-clause-enough : goal.close_cells-ended-requires-clause-enough
+close_cells-ended-requires-clause-enough g c =
     let many : length c.in-Ok.back.workers.items ≡ length c.args.self.workers.items =
     AllZip-long _ c.args.self.workers.items c.in-Ok.back.workers.items
     c.in-Ok.ensures.back.workers in
     let enough = c.args.self.enough in
     omega (arith, many, enough)
 
-pub returns-then-is_known-clause-world : goal.returns-then-is_known-clause-world
-returns-then-is_known-clause-world g c =
+pub returns-in-Ok-left-clause-world : goal.returns-in-Ok-left-clause-world
+returns-in-Ok-left-clause-world g c =
     let server = c.args.self in
     let known = server.control.publishing.known in
     let back = c.in-Ok.ensures.back in
@@ -69,8 +69,9 @@ returns-then-is_known-clause-world g c =
     let onwards =
     laws.onwards server.control back.last operator.lines operator.reads operator.led in
     let answers = c.answers_are_runs.ensures in
-    let done = c.close_cells-closed.ensures in
-    let closed = c.close_cells-closed.result.closed in
+    let done = c.close_cells-ended.ensures in
+    let left = c.in-Ok-left.ensures in
+    let closed = c.close_cells-ended.result.closed in
     let own = rw (c.into_cells.ensures, c.of-cells.ensures) at done.own in
     let history = rw (c.into_cells.ensures, c.of-cells.ensures) at done.history in
     let quotas = rw (c.into_cells.ensures, c.of-cells.ensures) at done.quotas in
@@ -79,9 +80,9 @@ returns-then-is_known-clause-world g c =
     operator.reads c.in-Ok.back.operator server.staff.own operator.grown
     (laws.reads server.control back.last operator.lines operator.reads operator.led) in
     hands_back _ _ server.cells server.control _ back.last.halted _ back.last.arrays _ closed.values
-    (ap (λ (v : Vec (String Global) Global). map string_bytes v.items) done.halted
+    (ap (λ (v : Vec (String Global) Global). map string_bytes v.items) (left.halted ∙ done.halted)
     ∙ back.halted_are)
-    (done.arrays ∙ back.arrays_are) c.last_values-values.ensures
+    (left.arrays ∙ done.arrays ∙ back.arrays_are) left.values
     (leaves _ _ laws.only c.threads_grant_quotas.ensures c.servers_count_as_one.ensures.each
     server.cells server.control back.last
     operator.lines operator.reads c.in-Ok.back.published closed own
@@ -96,5 +97,5 @@ returns-then-is_known-clause-world g c =
     server.workers.items c.in-Ok.back.workers.items closed
     published.last.rules_are published.sound looked
     (ap (λ (b : KnownPrefix). b.publisher) back.published_are ∙ onwards.publisher)
-    server.staff.each workers (done.prefix c.if-is_known.true) done.passes history
+    server.staff.each workers (done.prefix left.known) done.passes history
     quotas))
