@@ -9,13 +9,15 @@ use Rattle.command_words.specs.Requests.{AskFor, AskForHelp, AskForNothing}
 use Rattle.commands.specs.Texts.{output_text}
 use Rattle.command_words.specs.declared.request.Command.{Command}
 use Rattle.commands.specs.declared.output.CommandOutput.{CommandOutput}
+use Rattle.serving.specs.declared.counters.Counters.{Counters}
 
 -- the command has this output, whose text was appended to standard output; standard error got
--- nothing
+-- nothing. If it served, the server opened with these counters
 pub record IsAnswered (known : KnownFiles) (command : Command)
     (before after : Option (List ℕ)) (GetsLines : List ℕ → Type 0) : Type 0 where
+  pub counters : Option Counters
   pub output : CommandOutput
-  pub is_output : IsOutput known command output
+  pub is_output : IsOutput known counters command output
   pub printed : Appends before after (output_text output)
   pub silent : GetsLines []
 

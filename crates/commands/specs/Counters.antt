@@ -38,19 +38,26 @@ OpensFrom (Some text) c =
 OpensFrom None c = (c.halted.items ≡ []) × (c.directory ≡ []) × AreZeros 8192 c.values.items
 
 -- the arrays of counters, or none
-abbrev pub declared_by : Option (List CellArray) → List CellArray
+abbrev pub declared_by : Option Counters → List CellArray
 declared_by None = []
-declared_by (Some arrays) = arrays
+declared_by (Some c) = c.directory
 
-module _ (known : KnownFiles) (manifest : List ℕ) (arrays : Option (List CellArray)) where
-  -- the server of a manifest, which was loaded over these arrays
+-- a server opens with the halted apps and the values of these counters, or with none and zeros
+abbrev pub Opens : Option Counters → Server → Type 0
+Opens None server = (server.halted.items ≡ []) × AreZeros 8192 server.values.items
+Opens (Some c) server = (server.halted ≡ c.halted) × (server.values ≡ c.values)
+
+module _ (known : KnownFiles) (manifest : List ℕ) (counters : Option Counters) where
+  -- the server of a manifest, which was loaded over the arrays of these counters, and opens with
+  -- them
   pub record IsReady (server : Server) : Type 0 where
-    pub loaded :
-        IsLoadedFrom known manifest (declared_by arrays) server.loaded.rules server.loaded.directory
+    pub loaded : IsLoadedFrom known manifest (declared_by counters) server.loaded.rules
+        server.loaded.directory
     pub path : string_bytes server.path ≡ manifest
-    pub made : IsMadeFrom known manifest (declared_by arrays) server.loaded
+    pub made : IsMadeFrom known manifest (declared_by counters) server.loaded
+    pub opens : Opens counters server
 
   -- why there is no such server
   abbrev pub IsStartRefusal : ServingFault → Type 0
   IsStartRefusal fault =
-      IsStaffFault fault ⊎ RefusesToServe known manifest (declared_by arrays) fault
+      IsStaffFault fault ⊎ RefusesToServe known manifest (declared_by counters) fault

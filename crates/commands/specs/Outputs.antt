@@ -1,18 +1,16 @@
 -- The output of each command, and why it is refused, by the bytes of the files, as far as they are
 -- known. The bytes of a device's files aren't known, so an output is one for some bytes. No
 -- contract can say what a server replies, and nothing is claimed if an allocation fails.
-use Rattle.std.specs.Prelude.{◌≡◌, ℕ, List, Option, Some, None, IsSome}
-use Rattle.std.specs.Borrow.{Bor}
+use Rattle.std.specs.Prelude.{◌≡◌, Option}
 use Rattle.std.specs.String.{string_bytes}
 use Rattle.bounded_files.specs.Files.{KnownFiles}
-use Rattle.cells.specs.declared.array.CellArray.{CellArray}
 use Rattle.operator.specs.Done.{IsRequestRefusal, IsDoneAs}
 use Rattle.operator_request.specs.declared.request.OperatorRequest.TheVariants as sent
 use Rattle.program_tools.specs.Assembly.{IsAssembledFrom, IsAssemblyRefusal}
 use Rattle.program_tools.specs.Assembly.{IsListedFrom, IsListingRefusal}
 use Rattle.program_tools.specs.Programs.{HasChosen, HasSlots, IsProgramRefusal, IsRunRefusal}
 use Rattle.program_tools.specs.Rules.{HasCompiled, IsCompileRefusal}
-use Rattle.commands.specs.Counters.{IsReady, IsStartRefusal}
+use Rattle.commands.specs.Counters.{IsReady, IsStartRefusal, OpensWith}
 use Rattle.commands.specs.Replays.{HasReplayed, IsReplayRefusal}
 use Rattle.command_words.specs.declared.request.Command.{Command}
 use Rattle.command_words.specs.declared.request.Command.TheVariants as command
@@ -20,13 +18,10 @@ use Rattle.commands.specs.declared.command_fault.Fault.{Fault}
 use Rattle.commands.specs.declared.command_fault.Fault.TheVariants.{Ask, Program, Serving}
 use Rattle.commands.specs.declared.output.CommandOutput.{CommandOutput}
 use Rattle.commands.specs.declared.output.CommandOutput.TheVariants as output
+use Rattle.serving.specs.declared.counters.Counters.{Counters}
 
--- there are arrays, of a file, if one is named
-abbrev pub HasArrays : Option (Bor (List ℕ)) → Option (List CellArray) → Type 0
-HasArrays None arrays = arrays ≡ None
-HasArrays (Some path) arrays = IsSome arrays
-
-module _ (known : KnownFiles) where
+-- if it is to serve, the server opens with these counters
+module _ (known : KnownFiles) (counters : Option Counters) where
   abbrev pub IsOutput : Command → CommandOutput → Type 0
   IsOutput (command.Assemble text out) (output.Assembled program) =
       IsAssembledFrom known text.now program.items
@@ -39,9 +34,9 @@ module _ (known : KnownFiles) where
   IsOutput (command.Run run) (output.Chosen choice instructions) =
       HasChosen known run choice instructions
   IsOutput (command.Send request port) (output.Replied text) = IsDoneAs request (string_bytes text)
-  IsOutput (command.Serve manifest counters plan) (output.Ready server kept) =
-      (arrays : Option (List CellArray)) × HasArrays counters arrays
-      × IsReady known manifest.now arrays server × (kept ≡ plan)
+  IsOutput (command.Serve manifest path plan) (output.Ready server kept) =
+      OpensWith (command.Serve manifest path plan) counters
+      × IsReady known manifest.now counters server × (kept ≡ plan)
   IsOutput (command.StopAndWait port) (output.Replied text) =
       IsDoneAs sent.Stop (string_bytes text)
   IsOutput (command.Verify path shape) (output.Accepted slots) =
@@ -57,9 +52,9 @@ module _ (known : KnownFiles) where
       IsReplayRefusal known manifest.now script.now fault
   IsRefused (command.Run run) (Program fault) = IsRunRefusal known run.path.now run.shape fault
   IsRefused (command.Send request port) (Ask fault) = IsRequestRefusal request fault
-  IsRefused (command.Serve manifest counters plan) (Serving fault) =
-      (arrays : Option (List CellArray)) × HasArrays counters arrays
-      × IsStartRefusal known manifest.now arrays fault
+  IsRefused (command.Serve manifest path plan) (Serving fault) =
+      OpensWith (command.Serve manifest path plan) counters
+      × IsStartRefusal known manifest.now counters fault
   IsRefused (command.StopAndWait port) (Ask fault) = IsRequestRefusal sent.Stop fault
   IsRefused (command.Verify path shape) (Program fault) =
       IsProgramRefusal known path.now shape fault

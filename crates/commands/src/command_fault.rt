@@ -20,7 +20,7 @@ pub enum Fault {
     Program(ProgramToolFault),
     /// B2 to B4, M1 to M8: a script, or a manifest of it, is refused.
     Replay(ReplayFault),
-    /// K1 to K5, B4: the file of a server's counters can't be opened or written.
+    /// K1 to K4, B4: the file of a server's counters can't be opened or written.
     Counters(CountersFault),
     /// A server can't be made, or can't serve.
     Serving(ServingFault),

@@ -122,9 +122,6 @@ fn print_counters_fault<R: Files, E: Write>(
         CountersFault::InUse => "another server has it",
         CountersFault::File => "a link, not a regular file, or over 1 MiB",
         CountersFault::Damaged { .. } => "this line is wrong, or the file is cut short",
-        CountersFault::Crashed => {
-            "its server wasn't stopped: set its counters, then line 2 to stopped"
-        }
     };
     let path = Printed(path);
     writeln!(err, "{path}: {reason}").is_ok()

@@ -1,6 +1,6 @@
 //! The file of a server's counters and halted apps: what the server opens with, and what it leaves.
 
-ghost use Rattle.std.specs.Prelude.{◌≡◌, IfOk, IfSome, None, OnOk, true};
+ghost use Rattle.std.specs.Prelude.{◌≡◌, IfOk, IfSome, None, OnOk, Some, true};
 ghost use Rattle.cells.specs.Events.{AreCells};
 ghost use Rattle.counters_file.specs.Kept.{Keeps};
 ghost use Rattle.commands.specs.Counters.{OpensFrom, OpensWith, contents_with};
@@ -14,6 +14,7 @@ use serving::{Counters, Server};
 use std::alloc::{AllocError, Global};
 use std::fs::File;
 use std::rt::Files;
+use std::snapshot::Snapshot;
 
 /// How a file of counters was found.
 #[derive(Clone, Copy)]
@@ -31,6 +32,8 @@ pub enum Found {
 pub struct OwnFile<'a, R> {
     pub file: DeviceFile<'a, R>,
     pub found: Found,
+    /// What it said when it was read, for contracts only.
+    pub said: Snapshot<Counters>,
 }
 
 /// What a server opens with, and the file of its counters. The counters are None if the command
@@ -58,7 +61,8 @@ pub fn open_counters<'a, R>(
 ) -> Result<Opening<'a, R>, CountersFault>
 where
     R: Files<File = File> + AllocGlobal,
-    ensures { IfOk result (λ o. OpensWith command.now o.counters) }
+    ensures counters { IfOk result (λ o. OpensWith command.now o.counters) }
+    ensures said { IfOk result (λ o. IfSome o.file (λ own. o.counters ≡ Some own.said.value)) }
 {
     let Command::Serve {
         counters: Some(path),
@@ -94,13 +98,17 @@ pub fn read_own<'a, R>(
 ) -> Result<Opened<'a, R>, CountersFault>
 where
     R: Files<File = File> + AllocGlobal,
-    ensures { IfOk result (λ o. AreCells o.counters.values.items) }
+    ensures cells { IfOk result (λ o. AreCells o.counters.values.items) }
+    ensures said { IfOk result (λ o. o.counters ≡ o.file.said.value) }
 {
     match counters_in(alloc, &file) {
-        Ok((counters, found)) => Ok(Opened {
-            file: OwnFile { file, found },
-            counters,
-        }),
+        Ok((counters, found)) => {
+            let said = Snapshot::of(&counters);
+            Ok(Opened {
+                file: OwnFile { file, found, said },
+                counters,
+            })
+        }
         Err(fault) => Err(fault),
     }
 }

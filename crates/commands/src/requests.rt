@@ -1,9 +1,10 @@
 //! From a command to its output.
 
-ghost use Rattle.std.specs.Prelude.{IfOk, IfErr, IfSome, Some, option_map};
+ghost use Rattle.std.specs.Prelude.{IfOk, IfErr, IfSome, Option, Some};
 ghost use Rattle.cells.specs.Events.{AreCells};
 ghost use Rattle.commands.specs.Counters.{IsReady, IsStartRefusal, OpensWith};
 ghost use Rattle.commands.specs.Outputs.{IsOutput, IsRefused};
+ghost use Rattle.serving.specs.declared.counters.Counters.{Counters};
 
 use crate::command_fault::Fault;
 use crate::output::CommandOutput;
@@ -36,8 +37,8 @@ where
     R: Net<Listener = TcpListener, Stream = TcpStream>,
     D: Disk,
     requires { OpensWith command.now counters.old }
-    ensures output { IfOk result (IsOutput (D.known disk.now) command.now) }
-    ensures fault { IfErr result (IsRefused (D.known disk.now) command.now) }
+    ensures output { IfOk result (IsOutput (D.known disk.now) counters.old command.now) }
+    ensures fault { IfErr result (IsRefused (D.known disk.now) counters.old command.now) }
 {
     let alloc = rt.alloc();
     match command {
@@ -96,10 +97,8 @@ where
     R: AllocGlobal + Net<Listener = TcpListener, Stream = TcpStream>,
     D: Disk,
     requires { IfSome counters.old (λ c. AreCells c.values.items) }
-    ensures ready { let arrays = option_map (λ c. c.directory) counters.old in
-        IfOk result (IsReady (D.known disk.now) manifest.now arrays) }
-    ensures fault { let arrays = option_map (λ c. c.directory) counters.old in
-        IfErr result (IsStartRefusal (D.known disk.now) manifest.now arrays) }
+    ensures ready { IfOk result (IsReady (D.known disk.now) manifest.now counters.old) }
+    ensures fault { IfErr result (IsStartRefusal (D.known disk.now) manifest.now counters.old) }
 {
     if let Some(counters) = counters.take() {
         return prepare_with(rt, disk, manifest, plan, counters);
@@ -121,18 +120,19 @@ where
     R: AllocGlobal + Net<Listener = TcpListener, Stream = TcpStream>,
     D: Disk,
     requires { AreCells counters.values.items }
-    ensures ready { IfOk result
-        (IsReady (D.known disk.now) manifest.now (Some counters.directory)) }
+    ensures ready { IfOk result (IsReady (D.known disk.now) manifest.now (Some counters)) }
     ensures fault { IfErr result
-        (IsStartRefusal (D.known disk.now) manifest.now (Some counters.directory)) }
+        (IsStartRefusal (D.known disk.now) manifest.now (Some counters)) }
 {
     prepare(rt, disk, manifest, plan.port, plan.operator, counters)
 }
 
 // The choice of a run.
 fn chosen<D: Disk>(alloc: Global, disk: &D, run: &RunArgs<'_>) -> Result<CommandOutput, Fault>
-    ensures output { IfOk result (IsOutput (D.known disk.now) (Command.Run run.now)) }
-    ensures fault { IfErr result (IsRefused (D.known disk.now) (Command.Run run.now)) }
+    ensures output { (c : Option Counters)
+        → IfOk result (IsOutput (D.known disk.now) c (Command.Run run.now)) }
+    ensures fault { (c : Option Counters)
+        → IfErr result (IsRefused (D.known disk.now) c (Command.Run run.now)) }
 {
     match run_file(alloc, disk, run) {
         Ok((choice, instructions)) => Ok(CommandOutput::Chosen {

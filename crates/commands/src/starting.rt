@@ -1,10 +1,12 @@
 //! `serve`, from a server that is ready to the status: with a file of counters or without one.
 
-ghost use Rattle.std.specs.Prelude.{◌≡◌, ◌≤◌};
+ghost use Rattle.std.specs.Prelude.{◌≡◌, ◌≤◌, IfSome, Option, Some};
 ghost use Rattle.std.specs.Io.KnownBytes.{Appends};
 ghost use Rattle.command_line.specs.Printed.{IsGiven};
 ghost use Rattle.commands.specs.Commands.{IsAnswered};
+ghost use Rattle.commands.specs.Counters.{Opens};
 ghost use Rattle.commands.specs.Outputs.{IsOutput};
+ghost use Rattle.serving.specs.declared.counters.Counters.{Counters};
 ghost use Rattle.workers.specs.Texts.{serving_line};
 
 use crate::command_fault::Fault;
@@ -51,7 +53,9 @@ where
     D: Disk + Sync,
     O: Write,
     E: Write,
-    requires ready { IsOutput (D.known disk.now) command.now (CommandOutput.Ready server plan.now) }
+    requires ready { (c : Option Counters)
+        × IsOutput (D.known disk.now) c command.now (CommandOutput.Ready server plan.now)
+        × IfSome file (λ own. c ≡ Some own.said.value) }
     ensures within { result ≤ 1 }
     ensures done { result ≡ 0 → IsAnswered (D.known disk.now) command.now
         (O.contents out.old) (O.contents out.new) (IsGiven E.contents err.old err.new) }
@@ -85,7 +89,8 @@ where
     D: Disk + Sync,
     O: Write,
     E: Write,
-    requires ready { IsOutput (D.known disk.now) command.now (CommandOutput.Ready server plan.now) }
+    requires ready { (c : Option Counters)
+        × IsOutput (D.known disk.now) c command.now (CommandOutput.Ready server plan.now) }
     ensures within { result ≤ 1 }
     ensures done { result ≡ 0 → IsAnswered (D.known disk.now) command.now
         (O.contents out.old) (O.contents out.new) (IsGiven E.contents err.old err.new) }
@@ -149,8 +154,8 @@ fn refuse_serving<E: Write>(err: &mut E, fault: ServingFault) -> u8
     status
 }
 
-// Serves until the operator stops the server, whose file of counters then has those that it leaves.
-// Prints a line once it serves.
+// Serves with the counters of this file until the operator stops the server. The file then has
+// those that it leaves. Prints a line once it serves.
 fn serve_keeping<R, D, O, E>(
     rt: &R,
     disk: &D,
@@ -171,6 +176,7 @@ where
     D: Disk + Sync,
     O: Write,
     E: Write,
+    requires opens { Opens (Some own.said.value) server }
     ensures within { result ≤ 1 }
     ensures done { result ≡ 0 → Appends (O.contents out.old) (O.contents out.new) (serving_line 1) }
     ensures silent { result ≡ 0 → err.new ≡ err.old }
@@ -179,7 +185,11 @@ where
     // that waits for the server's end may start the next one.
     let _open = server.ports().operator_handle();
     let port = server.ports().service().port();
-    let OwnFile { file, found } = own;
+    let OwnFile {
+        file,
+        found,
+        said: _said,
+    } = own;
     let store = match store_of(rt.alloc(), file, &server) {
         Ok(store) => store,
         Err(fault) => {

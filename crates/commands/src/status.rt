@@ -1,6 +1,6 @@
 //! From the words of a command line to the status, with what is printed on the way.
 
-ghost use Rattle.std.specs.Prelude.{◌≡◌, ◌≤◌, map};
+ghost use Rattle.std.specs.Prelude.{◌≡◌, ◌≤◌, IfSome, Some, map};
 ghost use Rattle.command_line.specs.Printed.{IsGiven};
 ghost use Rattle.commands.specs.Commands.{AreWrong, IsAnswered, IsDone};
 ghost use Rattle.commands.specs.Counters.{OpensWith};
@@ -145,7 +145,8 @@ where
     D: Disk + Sync,
     O: Write,
     E: Write,
-    requires { OpensWith command.now opening.counters }
+    requires counters { OpensWith command.now opening.counters }
+    requires said { IfSome opening.file (λ own. opening.counters ≡ Some own.said.value) }
     ensures within { result ≤ 1 }
     ensures done { result ≡ 0 → IsAnswered (D.known disk.now) command.now
         (O.contents out.old) (O.contents out.new) (IsGiven E.contents err.old err.new) }

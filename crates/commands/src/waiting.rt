@@ -1,8 +1,9 @@
 //! A server that waits for the file of its counters, which another server has: so that it can take
 //! over, with all that the other one counted.
 
-ghost use Rattle.std.specs.Prelude.{IfOk};
+ghost use Rattle.std.specs.Prelude.{IfOk, Option, Some};
 ghost use Rattle.commands.specs.Outputs.{IsOutput};
+ghost use Rattle.serving.specs.declared.counters.Counters.{Counters};
 
 use crate::command_fault::Fault;
 use crate::kept_counters::{Opened, OwnFile, read_own};
@@ -52,9 +53,11 @@ pub fn in_turn<'a, R, D>(
 where
     R: Files<File = File> + AllocGlobal + Clock + Eprint,
     D: Disk,
-    requires ready { IsOutput (D.known disk.now) command.now (CommandOutput.Ready server plan.now) }
-    ensures { IfOk result (λ turn.
-        IsOutput (D.known disk.now) command.now (CommandOutput.Ready turn.server plan.now)) }
+    requires ready { (c : Option Counters)
+        × IsOutput (D.known disk.now) c command.now (CommandOutput.Ready server plan.now) }
+    // The server opens with what the file says now, and not with what it said before.
+    ensures { IfOk result (λ turn. IsOutput (D.known disk.now) (Some turn.file.said.value)
+        command.now (CommandOutput.Ready turn.server plan.now)) }
 {
     let Command::Serve {
         counters: Some(path),

@@ -1,5 +1,6 @@
 use Rattle.std.proofs.Common.{sym, subst}
-use Rattle.commands.specs.Outputs.{IsRefused}
+use Rattle.std.specs.Prelude.{IfErr, IfOk}
+use Rattle.commands.specs.Outputs.{IsOutput, IsRefused}
 use Rattle.commands.specs.declared.command_fault.Fault.TheVariants.{Program}
 use Rattle.command_words.specs.declared.request.Command.{Command}
 use Rattle.commands.proofs.Opened.{are_cells, ready_is, refused_is}
@@ -8,8 +9,20 @@ use Rattle.commands.proofs.requests.output_of.Goals as goal
 pub returns-in-Err-verify_file-clause-fault : goal.returns-in-Err-verify_file-clause-fault
 returns-in-Err-verify_file-clause-fault g c =
     subst (λ (command : Command).
-    IsRefused (g.D.Disk.known c.args.disk.now) command (Program c.in-Err-verify_file.fault))
-    (sym c.in-Verify.is) c.in-Err-verify_file.ensures.fault
+    IsRefused (g.D.Disk.known c.args.disk.now) c.args.counters.now command
+    (Program c.in-Err-verify_file.fault)) (sym c.in-Verify.is) c.in-Err-verify_file.ensures.fault
+
+pub returns-in-Run-clause-output : goal.returns-in-Run-clause-output
+returns-in-Run-clause-output g c =
+    subst (λ (command : Command). IfOk c.chosen.result
+    (IsOutput (g.D.Disk.known c.args.disk.now) c.args.counters.now command)) (sym c.in-Run.is)
+    (c.chosen.ensures.output c.args.counters.now)
+
+pub returns-in-Run-clause-fault : goal.returns-in-Run-clause-fault
+returns-in-Run-clause-fault g c =
+    subst (λ (command : Command). IfErr c.chosen.result
+    (IsRefused (g.D.Disk.known c.args.disk.now) c.args.counters.now command)) (sym c.in-Run.is)
+    (c.chosen.ensures.fault c.args.counters.now)
 
 pub server_of-requires : goal.server_of-requires
 server_of-requires g c = are_cells c.args.command.now c.args.counters.now c.requires
