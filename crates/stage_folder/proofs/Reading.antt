@@ -1,15 +1,18 @@
 -- The records that are read, one after the other.
-use Rattle.std.proofs.Common.{◌≡◌, ◌++◌, ◌∷◌, ◌∙◌, ℕ, List, [], cond}
+use Rattle.std.proofs.Common.{◌≡◌, ◌⊎◌, ◌++◌, ◌∷◌, ◌∙◌, ℕ, List, [], cond, inl, inr}
 use Rattle.std.proofs.Common.{ap, subst, sym, refl, append_assoc, append-nil}
-use Rattle.std.specs.Prelude.{filter, filter_map, Some, None, IfSome, is_none}
+use Rattle.std.specs.Prelude.{filter, filter_map, Some, None, IfSome, is_none, true, false}
+use Rattle.std.specs.Prelude.{Option, ◌==◌, if◌then◌else◌, option_and_then}
 use Rattle.std.specs.Prelude.{Result, Ok, Err, IfOk}
 use Rattle.std.specs.List.{cons_option}
 use Rattle.std.specs.Prelude.{IsPermutation, IsSorted}
 use Rattle.std.specs.Ordering.{nat_cmp}
 use Rattle.std.proofs.lemmas.List.Sorted.{Contains-permutation, IsPermutation-sym}
 use Rattle.stage_records.specs.Steps.{StagingStep}
-use Rattle.stage_folder.specs.Folders.{GivesNumbers, KnownRecords}
-use Rattle.stage_folder.specs.Recorded.{AreRead, AreRecorded, IsStepAt, step_at}
+use Rattle.stage_folder.specs.Folders.{GivesNumbers, GivesRecord, KnownRecords, record_known}
+use Rattle.stage_records.specs.Records.{step_in}
+use Rattle.stage_folder.specs.Recorded.{AreRead, AreRecorded, IsStepAt, if_numbered, step_at}
+use Rattle.stage_folder.specs.Recorded.{MayBeRecorded}
 use Rattle.stage_folder.specs.declared.folder_fault.FolderFault.{FolderFault}
 use Rattle.stage_folder.specs.declared.records.RecordedSteps.{RecordedSteps}
 
@@ -94,3 +97,39 @@ all_recorded known numbers sorted slice (Ok recorded) given moved order same rea
   sorted = order;
   read = subst (λ ns. AreRead known ns recorded) same read;
 }
+
+-- ---- one record
+
+-- the step that a record's bytes spell, if they spell this one
+at_record : (number : ℕ) (found : Option (List ℕ)) (bytes : List ℕ) (step : StagingStep)
+    → found ≡ Some bytes → step_in bytes ≡ Some step
+    → option_and_then (if_numbered number) (option_and_then step_in found)
+    ≡ if_numbered number step
+at_record number found bytes step given spelt =
+    ap (λ b. option_and_then (if_numbered number) (option_and_then step_in b)) given
+    ∙ ap (λ s. option_and_then (if_numbered number) s) spelt
+
+pub numbered : (known : KnownRecords) (number : ℕ) (bytes : List ℕ) (step : StagingStep)
+    → GivesRecord known number (Some bytes) → step_in bytes ≡ Some step
+    → (step.number == number) ≡ true → IsStepAt known number (Some step)
+numbered None number bytes step given spelt same = tt
+numbered (Some records) number bytes step given spelt same =
+    sym (at_record number (records number) bytes step given spelt
+    ∙ ap (λ b. if b then Some step else None) same)
+
+pub otherwise_numbered : (known : KnownRecords) (number : ℕ) (bytes : List ℕ) (step : StagingStep)
+    → GivesRecord known number (Some bytes) → step_in bytes ≡ Some step
+    → (step.number == number) ≡ false → IsStepAt known number None
+otherwise_numbered None number bytes step given spelt other = tt
+otherwise_numbered (Some records) number bytes step given spelt other =
+    sym (at_record number (records number) bytes step given spelt
+    ∙ ap (λ b. if b then Some step else None) other)
+
+-- ---- a record that may be written
+
+pub may_be : (step : StagingStep) (bytes : List ℕ) (old new : KnownRecords)
+    → step_in bytes ≡ Some step → (new ≡ old) ⊎ (new ≡ record_known step.number bytes old)
+    → MayBeRecorded step old new
+may_be step bytes old new spelt (inl same) = inl same
+may_be step bytes old new spelt (inr put) =
+    inr (record { bytes = bytes; spelt = spelt; put = put })

@@ -1,5 +1,5 @@
 -- The steps that the records of a folder spell.
-use Rattle.std.specs.Prelude.{◌≡◌, ℕ, ◌==◌, List, filter, filter_map, if◌then◌else◌}
+use Rattle.std.specs.Prelude.{◌≡◌, ◌⊎◌, ℕ, ◌==◌, List, filter, filter_map, if◌then◌else◌}
 use Rattle.std.specs.Prelude.{Option, Some, None, IfSome, is_none, option_and_then}
 use Rattle.std.specs.Prelude.{IsSorted}
 use Rattle.std.specs.Ordering.{nat_cmp}
@@ -39,3 +39,7 @@ pub record IsRecorded (step : StagingStep) (old new : KnownRecords) : Type 0 whe
   pub bytes : List ℕ
   pub spelt : step_in bytes ≡ Some step
   pub put : new ≡ record_known step.number bytes old
+
+-- the records are as before, or else the step is recorded
+abbrev pub MayBeRecorded : StagingStep → (old new : KnownRecords) → Type 0
+MayBeRecorded step old new = (new ≡ old) ⊎ IsRecorded step old new

@@ -3,6 +3,7 @@
 use crate::device_path::{make_folder_of, path_in, path_of};
 use crate::folder::StageFolder;
 use crate::folder_fault::FolderFault;
+use crate::note::FolderNote;
 use crate::record_folder::{RECORDS, has_records, make_records, numbers_in};
 use bounded_files::{IfDenied, Links, read_file, remove_file, replace_file};
 use std::fs::{self, File, TryLockError};
@@ -15,10 +16,8 @@ const MOST_BYTES: u32 = 0x100_0000;
 /// The most bytes of a record: 256 MiB.
 const MOST_RECORD: u32 = 0x1000_0000;
 
-/// The notes on loads, in the folder of the records, and their most bytes: 1 MiB.
-const LOADS: &str = ".stage/loads";
-
-const MOST_LOADS: u32 = 0x10_0000;
+/// The most bytes of a note: 1 MiB.
+const MOST_NOTE: u32 = 0x10_0000;
 
 /// A folder of a device, about whose files and records nothing is known. A file is replaced as a
 /// whole, and keeps its owner; none is read or written through a symbolic link. A missing folder
@@ -57,8 +56,13 @@ impl<'a, R: Files<File = File> + AllocGlobal> DeviceFolder<'a, R> {
         Ok(format!(in self.rt.alloc(); "{}/{RECORDS}/{number}.json", self.path.as_str())?)
     }
 
-    fn path_of_loads(&self) -> Result<String, FolderFault> {
-        Ok(path_of(self.rt.alloc(), self.path.as_str(), LOADS)?)
+    fn path_of_note(&self, note: FolderNote) -> Result<String, FolderFault> {
+        Ok(path_of(self.rt.alloc(), self.path.as_str(), note.path())?)
+    }
+
+    fn has_records(&self) -> Result<bool, FolderFault> {
+        let folder = self.path_of_records()?;
+        has_records(self.rt, folder.as_str())
     }
 
     // Replaces a file in the folder of the records, or makes it.
@@ -126,17 +130,19 @@ impl<'a, R: Files<File = File> + AllocGlobal> StageFolder for DeviceFolder<'a, R
         self.replace_own(path.as_str(), bytes)
     }
 
-    fn read_loads(&self) -> Result<Option<Vec<u8>>, FolderFault> {
-        let folder = self.path_of_records()?;
-        if !has_records(self.rt, folder.as_str())? {
+    fn read_note(&self, note: FolderNote) -> Result<Option<Vec<u8>>, FolderFault> {
+        if !self.has_records()? {
             return Ok(None);
         }
-        let path = self.path_of_loads()?;
-        Ok(read_file(self.rt, path.as_str(), Links::Refused, MOST_LOADS)?)
+        let path = self.path_of_note(note)?;
+        Ok(read_file(self.rt, path.as_str(), Links::Refused, MOST_NOTE)?)
     }
 
-    fn write_loads(&self, bytes: &[u8]) -> Result<(), FolderFault> {
-        let path = self.path_of_loads()?;
+    fn write_note(&self, note: FolderNote, bytes: &[u8]) -> Result<(), FolderFault> {
+        if note == FolderNote::AtWork && !self.has_records()? {
+            return Ok(());
+        }
+        let path = self.path_of_note(note)?;
         self.replace_own(path.as_str(), bytes)
     }
 }

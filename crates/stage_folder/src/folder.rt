@@ -6,6 +6,7 @@ ghost use Rattle.stage_folder.specs.Folders.{GivesFile, GivesNumbers, GivesRecor
 ghost use Rattle.stage_folder.specs.Folders.{put_known, record_known};
 
 use crate::folder_fault::FolderFault;
+use crate::note::FolderNote;
 
 /// A folder. Its files are named relative to it; the records of its steps are apart from them.
 pub trait StageFolder {
@@ -58,16 +59,16 @@ pub trait StageFolder {
             (records self.new ≡ record_known number bytes.now (records self.old))) }
         ensures files { files self.new ≡ files self.old };
 
-    /// The notes on the last load of each server, at most 1 MiB; None if there are none. Only a
-    /// device's folder has notes, next to its records.
-    // open: what they are.
-    fn read_loads(&self) -> Result<Option<Vec<u8>>, FolderFault> {
+    /// A note, at most 1 MiB; None if there is none. Only a device's folder has notes, next to its
+    /// records.
+    // open: what it is.
+    fn read_note(&self, _note: FolderNote) -> Result<Option<Vec<u8>>, FolderFault> {
         Ok(None)
     }
 
-    /// Makes the notes, or replaces them as a whole.
-    // open: what they are afterwards.
-    fn write_loads(&self, _bytes: &[u8]) -> Result<(), FolderFault> {
+    /// Makes a note, or replaces it as a whole.
+    // open: what it is afterwards.
+    fn write_note(&self, _note: FolderNote, _bytes: &[u8]) -> Result<(), FolderFault> {
         Err(FolderFault::NotRecorded)
     }
 }

@@ -1,9 +1,10 @@
 //! The records of the steps in a folder.
 
-ghost use Rattle.std.specs.Prelude.{◌≡◌, IfOk, IsPermutation, IsSorted, OnOk, true};
+ghost use Rattle.std.specs.Prelude.{◌≡◌, ◌==◌, IfOk, IsPermutation, IsSorted, OnErr, OnOk, true};
 ghost use Rattle.std.specs.Ordering.{nat_cmp};
 ghost use Rattle.stage_folder.specs.Steps.{has_distinct_names};
 ghost use Rattle.stage_folder.specs.Recorded.{AreRead, AreRecorded, IsRecorded, IsStepAt};
+ghost use Rattle.stage_folder.specs.Recorded.{MayBeRecorded};
 
 use crate::distinct_names::has_distinct_names;
 use crate::folder::StageFolder;
@@ -61,6 +62,12 @@ fn read_records<F: StageFolder>(
     Ok(RecordedSteps { steps, unread })
 }
 
+fn has_number(step: &StagingStep, number: u32) -> bool
+    ensures { result ≡ (step.now.number == number) }
+{
+    step.number == number
+}
+
 // The step of this number, if its record spells it.
 fn step_at<F: StageFolder>(
     alloc: Global,
@@ -73,8 +80,14 @@ fn step_at<F: StageFolder>(
         return Ok(None);
     };
     match read_step(alloc, bytes.as_slice())? {
-        Some(step) if step.number == number => Ok(Some(step)),
-        _ => Ok(None),
+        Some(step) => {
+            if has_number(&step, number) {
+                return Ok(Some(step));
+            }
+            drop(step);
+            Ok(None)
+        }
+        None => Ok(None),
     }
 }
 
@@ -82,6 +95,7 @@ fn step_at<F: StageFolder>(
 /// is replaced, and again after the step is undone. Returns `NotRecorded` if two of its files have
 /// one name, or if the record doesn't read back as this step.
 // open: which fault is returned.
+#[tactic(auto, using(crate::proofs::Reading::may_be))]
 pub fn write_record<F: StageFolder>(
     alloc: Global,
     folder: &mut F,
@@ -90,13 +104,18 @@ pub fn write_record<F: StageFolder>(
     ensures recorded { OnOk result
         (IsRecorded step.now (F.records folder.old) (F.records folder.new)) }
     ensures distinct { OnOk result (has_distinct_names step.now.files ≡ true) }
+    ensures failed { OnErr result
+        (MayBeRecorded step.now (F.records folder.old) (F.records folder.new)) }
     ensures files { F.files folder.new ≡ F.files folder.old }
 {
     if !has_distinct_names(&step.files) {
         return Err(FolderFault::NotRecorded);
     }
     match step_record(alloc, step)? {
-        Some(text) => folder.put_record(step.number, text.as_bytes()),
+        Some(text) => match folder.put_record(step.number, text.as_bytes()) {
+            Ok(()) => Ok(()),
+            Err(fault) => Err(fault),
+        },
         None => Err(FolderFault::NotRecorded),
     }
 }

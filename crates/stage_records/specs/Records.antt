@@ -1,5 +1,6 @@
 -- The record of a step: an object of JSON (RFC 8259), in which a file's bytes are in hex.
-use Rattle.std.specs.Prelude.{ℕ, ◌^◌, Bool, List, [], ◌∷◌, codes, nat_lt, if◌then◌else◌}
+use Rattle.std.specs.Prelude.{ℕ, ◌^◌, ◌==◌, Bool, true, false, List, [], ◌∷◌, codes, nat_lt}
+use Rattle.std.specs.Prelude.{if◌then◌else◌}
 use Rattle.std.specs.Prelude.{Option, Some, None, option_and_then, option_map}
 use Rattle.std.specs.Result.{result_ok}
 use Rattle.hex.specs.Hex.{decode_of}
@@ -9,7 +10,7 @@ use Rattle.serde_json.specs.Find.{get, as_array, as_bool, as_number, as_str, as_
 use Rattle.stage_records.specs.Steps.{ReplacedFile, StagingStep}
 use Rattle.stage_records.specs.declared.record_reader.Facts.{Facts}
 use Rattle.stage_records.specs.declared.step.StepAction.{StepAction}
-use Rattle.stage_records.specs.declared.step.StepAction.TheVariants.{Halt, Put, Raise}
+use Rattle.stage_records.specs.declared.step.StepAction.TheVariants.{Halt, Put, Raise, Resume}
 
 -- ---- members
 
@@ -70,14 +71,39 @@ raise_of d =
     option_and_then (λ appid. option_map (λ buckets. Raise appid buckets)
     (short_in (codes "buckets") d)) (text_in (codes "appid") d)
 
--- {"halt":"player"}, {"raise":{..}} or {"put":"/srv/checkout/current.toml"}
+-- none without the member, and otherwise its number
+abbrev pub share_by : Option Data → Option ℕ → Option (Option ℕ)
+share_by None short = Some None
+share_by (Some member) short = option_map (λ n. Some n) short
+
+-- a share; nothing if the member of this name isn't a number of at most 32 bits
+abbrev pub share_in : List ℕ → Data → Option (Option ℕ)
+share_in name d = share_by (get name d) (short_in name d)
+
+-- the same, or {"appid":"player"} for all that the app had before its halt
+abbrev pub resume_of : Data → Option StepAction
+resume_of d =
+    option_and_then (λ appid. option_map (λ share. Resume appid share)
+    (share_in (codes "buckets") d)) (text_in (codes "appid") d)
+
+-- {"halt":"player"}, {"raise":{..}}, {"resume":{..}} or {"put":"/srv/checkout/current.toml"}
 abbrev pub action_of : Data → Option StepAction
 action_of d =
     or_else (option_map (λ appid. Halt appid) (text_in (codes "halt") d)) (
-    or_else (option_and_then raise_of (get (codes "raise") d))
-    (option_map (λ manifest. Put manifest) (text_in (codes "put") d)))
+    or_else (option_and_then raise_of (get (codes "raise") d)) (
+    or_else (option_and_then resume_of (get (codes "resume") d))
+    (option_map (λ manifest. Put manifest) (text_in (codes "put") d))))
 
--- the members besides the action and the files
+abbrev pub is_two : Option ℕ → Bool
+is_two None = false
+is_two (Some n) = n == 2
+
+-- 2; a record of version 1 names none, and has neither `user` nor `because`
+abbrev pub is_known_version : Option Data → Bool
+is_known_version None = true
+is_known_version (Some d) = is_two (option_and_then as_u64 (as_number d))
+
+-- the members besides the texts, the action and the files
 abbrev pub facts_of : Data → Option Facts
 facts_of d =
     option_and_then (λ number.
@@ -93,18 +119,22 @@ action_in d = option_and_then action_of (get (codes "action") d)
 abbrev pub files_in : Data → Option (List ReplacedFile)
 files_in d = option_and_then files_of (option_and_then as_array (get (codes "files") d))
 
--- {"action":{..},"files":[..],"number":3,"time":1764340200,"undone":false}
+-- {"action":{..},"because":"crash at start","files":[..],"number":3,"time":1764340200,
+-- "undone":false,"user":"anna","version":2}
 abbrev pub step_of : Data → Option StagingStep
-step_of d =
+step_of d = if is_known_version (get (codes "version") d) then
     option_and_then (λ facts.
     option_and_then (λ action.
     option_map (λ files. record {
       number = facts.number;
       time = facts.time;
+      user = text_in (codes "user") d;
+      because = text_in (codes "because") d;
       action = action;
       files = files;
       is_undone = facts.is_undone;
     }) (files_in d)) (action_in d)) (facts_of d)
+    else None
 
 -- the step that the bytes of a record spell
 abbrev pub step_in : List ℕ → Option StagingStep

@@ -8,10 +8,12 @@ pub record ReplacedFile : Type 0 where
   pub before : Option (List ℕ)
   pub after : List ℕ
 
--- a step, with its number from 1, and its time in seconds since 1970
+-- a step, with its number from 1, its time in seconds since 1970, who took it, and why
 pub record StagingStep : Type 0 where
   pub number : ℕ
   pub time : ℕ
+  pub user : Option (List ℕ)
+  pub because : Option (List ℕ)
   pub action : StepAction
   pub files : List ReplacedFile
   pub is_undone : Bool

@@ -1,6 +1,7 @@
 //! Reads a step's record.
 
-ghost use Rattle.std.specs.Prelude.{◌≡◌, IfOk, option_copied, option_map};
+ghost use Rattle.std.specs.Prelude.{◌≡◌, IfOk, codes, option_copied, option_map};
+ghost use Rattle.serde_json.specs.Find.{get};
 ghost use Rattle.serde_json.specs.View.{items_view, view};
 ghost use Rattle.stage_records.specs.Records as specs;
 
@@ -143,6 +144,32 @@ fn raise_of(alloc: Global, value: &Value) -> Result<Option<StepAction>, AllocErr
     }
 }
 
+// A share: `Some(None)` without the member, and `None` if that isn't such a number.
+fn share_in(value: &Value, name: &str) -> Option<Option<u32>>
+    ensures { result ≡ specs.share_in name.now (view value.now) }
+{
+    let share = short_in(value, name);
+    if value.get(name).is_none() {
+        return Some(None);
+    }
+    match share {
+        Some(number) => Some(Some(number)),
+        None => None,
+    }
+}
+
+fn resume_of(alloc: Global, value: &Value) -> Result<Option<StepAction>, AllocError>
+    ensures { IfOk result (λ action. action ≡ specs.resume_of (view value.now)) }
+{
+    let Some(appid) = owned_in(alloc, value, "appid")? else {
+        return Ok(None);
+    };
+    match share_in(value, "buckets") {
+        Some(buckets) => Ok(Some(StepAction::Resume { appid, buckets })),
+        None => Ok(None),
+    }
+}
+
 fn action_of(alloc: Global, value: &Value) -> Result<Option<StepAction>, AllocError>
     ensures { IfOk result (λ action. action ≡ specs.action_of (view value.now)) }
 {
@@ -154,13 +181,29 @@ fn action_of(alloc: Global, value: &Value) -> Result<Option<StepAction>, AllocEr
     {
         return Ok(Some(action));
     }
+    if let Some(resume) = value.get("resume")
+        && let Some(action) = resume_of(alloc, resume)?
+    {
+        return Ok(Some(action));
+    }
     match owned_in(alloc, value, "put")? {
         Some(manifest) => Ok(Some(StepAction::Put { manifest })),
         None => Ok(None),
     }
 }
 
-// The members besides the action and the files.
+// Whether a record is of a version that is read here. One of a later version may mean something
+// else, and isn't read.
+fn is_known_version(value: &Value) -> bool
+    ensures { result ≡ specs.is_known_version (get (codes "version") (view value.now)) }
+{
+    match value.get("version") {
+        Some(version) => version.as_u64() == Some(2),
+        None => true,
+    }
+}
+
+// The members besides the texts, the action and the files.
 #[derive(Clone, Copy)]
 struct Facts {
     number: u32,
@@ -206,9 +249,14 @@ fn files_in(alloc: Global, value: &Value) -> Result<Option<Vec<ReplacedFile>>, A
 fn step_of(alloc: Global, value: &Value) -> Result<Option<StagingStep>, AllocError>
     ensures { IfOk result (λ step. step ≡ specs.step_of (view value.now)) }
 {
+    if !is_known_version(value) {
+        return Ok(None);
+    }
     let Some(facts) = facts_of(value) else {
         return Ok(None);
     };
+    let user = owned_in(alloc, value, "user")?;
+    let because = owned_in(alloc, value, "because")?;
     let Some(action) = action_in(alloc, value)? else {
         return Ok(None);
     };
@@ -218,6 +266,8 @@ fn step_of(alloc: Global, value: &Value) -> Result<Option<StagingStep>, AllocErr
     Ok(Some(StagingStep {
         number: facts.number,
         time: facts.time,
+        user,
+        because,
         action,
         files,
         is_undone: facts.is_undone,

@@ -6,9 +6,13 @@ ghost use Rattle.stage_records.specs.Records.{step_in};
 use crate::record_reader::read_step;
 use crate::same_step::is_same_step;
 use crate::step::{ReplacedFile, StagingStep, StepAction};
+use attrs::Text;
 use json_value::ObjectBuilder;
 use serde_json::Value;
 use std::alloc::{AllocError, Global};
+
+/// The version of the records that are written.
+const VERSION: u64 = 2;
 
 fn bytes_value(alloc: Global, bytes: Option<&[u8]>) -> Result<Value, AllocError> {
     match bytes {
@@ -33,10 +37,12 @@ fn file_values(alloc: Global, files: &[ReplacedFile]) -> Result<Vec<Value>, Allo
     Ok(values)
 }
 
-fn raise_value(alloc: Global, appid: &str, buckets: u32) -> Result<Value, AllocError> {
+fn share_value(alloc: Global, appid: &str, buckets: Option<u32>) -> Result<Value, AllocError> {
     let mut object = ObjectBuilder::new(alloc);
     object.put_text("appid", appid);
-    object.put_number("buckets", buckets as u64);
+    if let Some(buckets) = buckets {
+        object.put_number("buckets", buckets as u64);
+    }
     object.finish()
 }
 
@@ -45,20 +51,32 @@ fn action_value(alloc: Global, action: &StepAction) -> Result<Value, AllocError>
     match action {
         StepAction::Halt { appid } => object.put_text("halt", appid.as_str()),
         StepAction::Raise { appid, buckets } => {
-            object.put("raise", raise_value(alloc, appid.as_str(), *buckets))
+            object.put("raise", share_value(alloc, appid.as_str(), Some(*buckets)))
+        }
+        StepAction::Resume { appid, buckets } => {
+            object.put("resume", share_value(alloc, appid.as_str(), *buckets))
         }
         StepAction::Put { manifest } => object.put_text("put", manifest.as_str()),
     }
     object.finish()
 }
 
+fn put_some(object: &mut ObjectBuilder, name: &str, text: &Option<Text>) {
+    if let Some(text) = text {
+        object.put_text(name, text.as_str());
+    }
+}
+
 fn step_value(alloc: Global, step: &StagingStep) -> Result<Value, AllocError> {
     let mut object = ObjectBuilder::new(alloc);
     object.put("action", action_value(alloc, &step.action));
+    put_some(&mut object, "because", &step.because);
     object.put_list("files", file_values(alloc, &step.files));
     object.put_number("number", step.number as u64);
     object.put_number("time", step.time);
     object.put_bool("undone", step.is_undone);
+    put_some(&mut object, "user", &step.user);
+    object.put_number("version", VERSION);
     object.finish()
 }
 

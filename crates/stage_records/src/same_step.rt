@@ -3,6 +3,7 @@
 ghost use Rattle.std.specs.Prelude.{◌≡◌, option_map, true};
 
 use crate::step::{ReplacedFile, StagingStep, StepAction};
+use attrs::Text;
 
 fn is_same_action(action: &StepAction, other: &StepAction) -> bool
     ensures { result ≡ true → other.now ≡ action.now }
@@ -18,9 +19,26 @@ fn is_same_action(action: &StepAction, other: &StepAction) -> bool
                 buckets: number,
             },
         ) => own.as_str() == appid.as_str() && *number == *buckets,
+        (
+            StepAction::Resume { appid, buckets },
+            StepAction::Resume {
+                appid: own,
+                buckets: number,
+            },
+        ) => own.as_str() == appid.as_str() && *number == *buckets,
         (StepAction::Put { manifest }, StepAction::Put { manifest: own }) => {
             own.as_str() == manifest.as_str()
         }
+        _ => false,
+    }
+}
+
+fn is_same_text(text: &Option<Text>, other: &Option<Text>) -> bool
+    ensures { result ≡ true → other.now ≡ text.now }
+{
+    match (text, other) {
+        (None, None) => true,
+        (Some(text), Some(own)) => own.as_str() == text.as_str(),
         _ => false,
     }
 }
@@ -69,6 +87,8 @@ pub(crate) fn is_same_step(step: &StagingStep, other: &StagingStep) -> bool
     other.number == step.number
         && other.time == step.time
         && other.is_undone == step.is_undone
+        && is_same_text(&step.user, &other.user)
+        && is_same_text(&step.because, &other.because)
         && is_same_action(&step.action, &other.action)
         && are_same_files(&step.files, &other.files)
 }

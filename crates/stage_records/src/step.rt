@@ -13,6 +13,9 @@ pub enum StepAction {
     Halt { appid: Text },
     /// Changes the number of the threshold in an app's rule.
     Raise { appid: Text, buckets: u32 },
+    /// Puts what an app had before its halt in place again; its rule has this number of buckets, if
+    /// one is given.
+    Resume { appid: Text, buckets: Option<u32> },
     /// Puts the manifest at a path, and its files, in place.
     Put { manifest: Text },
 }
@@ -45,6 +48,10 @@ impl Model for ReplacedFile {
 pub struct StagingStep {
     pub number: u32,
     pub time: u64,
+    /// The user who took it; None if nobody is known.
+    pub user: Option<Text>,
+    /// Why it was taken, in the user's words.
+    pub because: Option<Text>,
     pub action: StepAction,
     pub files: Vec<ReplacedFile>,
     pub is_undone: bool,
@@ -58,6 +65,8 @@ impl Model for StagingStep {
     ghost view = { λ s. record {
       number = s.number;
       time = s.time;
+      user = s.user;
+      because = s.because;
       action = s.action;
       files = s.files.items;
       is_undone = s.is_undone;

@@ -1,7 +1,8 @@
 -- Which halts are in force, and which of them another manifest lifts.
-use Rattle.std.specs.Prelude.{ℕ, List, filter_map, find, Option, Some, None}
+use Rattle.std.specs.Prelude.{ℕ, List, [], ◌∷◌, filter_map, find, Option, Some, None, is_some}
 use Rattle.std.specs.Prelude.{Bool, false, not, ◌&&◌, if◌then◌else◌}
 use Rattle.std.specs.List.{list_any}
+use Rattle.std.specs.Option.{option_or}
 use Rattle.std.specs.Str.{bytes_eq}
 use Rattle.load.specs.Kept.{whole_file}
 use Rattle.load.specs.declared.sources.AppSources.{AppSources}
@@ -32,20 +33,43 @@ has_bytes (Some all) bytes = bytes_eq all bytes
 abbrev pub is_halted : AppSources → Bool
 is_halted app = has_bytes (whole_file app.kept) (halting_file app.entry.source)
 
--- a manifest has the app of this appid, with a file that doesn't halt it
-abbrev pub offers : List AppSources → (appid : List ℕ) → Bool
-offers apps appid =
+-- an app whose file was read, and doesn't halt it
+abbrev pub is_offered : AppSources → Bool
+is_offered app = is_some (whole_file app.kept) && not (is_halted app)
+
+-- a manifest has the app of this appid, and its file may be one that doesn't halt it: one that
+-- couldn't be read may be any
+abbrev pub may_offer : List AppSources → (appid : List ℕ) → Bool
+may_offer apps appid =
     list_any (λ app. bytes_eq app.entry.appid appid && not (is_halted app)) apps
 
--- a halt of this app is in force under a manifest; an app that it lacks isn't offered
+-- a manifest has the app of this appid, and its file surely is one that doesn't halt it
+abbrev pub surely_offers : List AppSources → (appid : List ℕ) → Bool
+surely_offers apps appid =
+    list_any (λ app. bytes_eq app.entry.appid appid && is_offered app) apps
+
+-- a halt of this app is in force under a manifest, unless that surely offers the app
 abbrev pub is_in_force : List StagingStep → List AppSources → (appid : List ℕ) → Bool
 is_in_force steps apps appid =
-    list_any (λ halted. bytes_eq halted appid) (halted_apps steps) && not (offers apps appid)
+    list_any (λ halted. bytes_eq halted appid) (halted_apps steps)
+    && not (surely_offers apps appid)
 
--- the next manifest offers an app that the current one doesn't
+-- the next manifest may offer an app that the current one may not offer
 abbrev pub lifts : (current next : List AppSources) → (appid : List ℕ) → Bool
-lifts current next appid = not (offers current appid) && offers next appid
+lifts current next appid = not (surely_offers current appid) && may_offer next appid
 
--- the app of the first halt in force that the next manifest lifts
+-- the app of the first halt that the next manifest may lift
 abbrev pub lifted_halt : List StagingStep → (current next : List AppSources) → Option (List ℕ)
 lifted_halt steps current next = find (lifts current next) (halted_apps steps)
+
+-- ---- the last halt
+
+-- a step halts this app, and isn't undone
+abbrev pub is_halt_of : StagingStep → (appid : List ℕ) → Bool
+is_halt_of step appid = has_bytes (halted_app step) appid
+
+-- the last step that does, of the later ones or else this one
+abbrev pub last_halt : List StagingStep → (appid : List ℕ) → Option StagingStep
+last_halt [] appid = None
+last_halt (step ∷ steps) appid = option_or (last_halt steps appid)
+    (if is_halt_of step appid then Some step else None)

@@ -12,13 +12,15 @@
 
 mod cut;
 mod halt;
+mod halt_of_app;
 mod halting;
 mod raise_fault;
 mod raising;
 mod same_test;
 mod threshold;
 
-pub use halt::{is_in_force, lifted_halt};
+pub use halt::{is_in_force, lifted_halt, may_offer, surely_offers};
+pub use halt_of_app::last_halt;
 pub use halting::halting_file;
 pub use raise_fault::RaiseFault;
 pub use raising::raised_rule;
