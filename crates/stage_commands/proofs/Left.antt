@@ -1,18 +1,17 @@
 -- What a stop leaves, from what each part leaves.
-use Rattle.std.proofs.Common.{◌≡◌, ◌∙◌, ap, refl, subst, sym, ℕ, List, [], ◌∷◌, Bool, true}
-use Rattle.std.proofs.Common.{false, cond, eq-eqb, zero, suc, inl, inr}
-use Rattle.std.specs.Prelude.{Some, None, Result, Ok, Err, IfErr, OnOk, IfSome}
-use Rattle.std.specs.Prelude.{option_and_then, option_map}
-use Rattle.stage_records.specs.Records.{step_in}
+use Rattle.std.proofs.Common.{◌≡◌, ◌∙◌, ap, refl, subst, sym, ℕ, List, [], ◌∷◌, true}
+use Rattle.std.proofs.Common.{false, zero, suc, inl, inr}
+use Rattle.std.specs.Prelude.{Some, None, Result, Ok, Err, IfErr, OnOk, IfSome, option_map}
 use Rattle.stage_records.specs.Steps.{ReplacedFile, StagingStep, last_step}
 use Rattle.stage_records.specs.declared.step.StepAction.{StepAction}
-use Rattle.stage_folder.specs.Folders.{KnownFolder, KnownRecords, record_known}
-use Rattle.stage_folder.specs.Recorded.{AreRecorded, IsRecorded, IsStepAt, if_numbered}
-use Rattle.stage_folder.specs.Steps.{IsPartlyDone, IsPartlyUndone, done, edited_place, undone}
+use Rattle.stage_folder.specs.Folders.{IsFree, KnownFolder, KnownRecords}
+use Rattle.stage_folder.specs.Recorded.{AreRecorded, IsRecorded, MayBeRecorded}
+use Rattle.stage_folder.specs.Steps.{IsFoundBy, IsPartlyDone, IsPartlyUndone, done}
+use Rattle.stage_folder.specs.Steps.{edited_place, has_distinct_names, undone}
 use Rattle.stage_folder.specs.declared.records.RecordedSteps.{RecordedSteps}
-use Rattle.stage_folder.specs.Steps.{has_distinct_names}
-use Rattle.stage_commands.specs.Backs.{Undoes, as_undone}
-use Rattle.stage_commands.specs.Taken.{AreAllRead, IsLast, IsLeft, LeftBy, LeftByUndo, MayChange}
+use Rattle.stage_commands.specs.Backs.{Undoes}
+use Rattle.stage_commands.specs.Taken.{AddAtMostOne, AreAllRead, IsLast, IsLeft, IsLeftUndone, IsNext}
+use Rattle.stage_commands.specs.Taken.{LeftBy, LeftByUndo, MayChange, as_undone}
 use Rattle.stage_commands.specs.Taken.{Performs, Takes, unchanged, partly_done, partly_undone}
 use Rattle.stage_commands.specs.declared.outcome.Stop.{Stop}
 use Rattle.stage_commands.specs.declared.outcome.Stop.TheVariants as stop
@@ -25,52 +24,72 @@ same : (known : KnownFolder) → known ≡ option_map (λ folder. folder) known
 same None = refl
 same (Some folder) = refl
 
--- ---- before anything is changed
+-- ---- before a file is changed
+
+adding_by : (why : Stop) (old_records new_records : KnownRecords) (old new : KnownFolder)
+    → AddAtMostOne old_records new_records old → new ≡ old
+    → LeftBy why old_records new_records old new
+adding_by (stop.Refused reason) old_records new_records old new adds e = (adds, e)
+adding_by (stop.Failed reason) old_records new_records old new adds e = unchanged adds e
+adding_by stop.Memory old_records new_records old new adds e = unchanged adds e
 
 pub unchanged_by : (why : Stop) (old_records new_records : KnownRecords) (old new : KnownFolder)
-    → new ≡ old → LeftBy why old_records new_records old new
-unchanged_by (stop.Refused reason) old_records new_records old new e = e
-unchanged_by (stop.Failed reason) old_records new_records old new e = unchanged e
-unchanged_by stop.Memory old_records new_records old new e = unchanged e
+    → new_records ≡ old_records → new ≡ old → LeftBy why old_records new_records old new
+unchanged_by why old_records new_records old new same e =
+    adding_by why old_records new_records old new (inl same) e
 
--- ---- after a step is recorded
+pub left_by : (why : Stop) (old_records new_records : KnownRecords) (old new : KnownFolder)
+    → LeftBy why old_records new_records old new → IsLeft old_records new_records old new
+left_by (stop.Refused reason) old_records new_records old new left = unchanged left.0 left.1
+left_by (stop.Failed reason) old_records new_records old new left = left
+left_by stop.Memory old_records new_records old new left = left
 
-at_own : (step : StagingStep) (bytes : List ℕ) (old : KnownRecords) → step_in bytes ≡ Some step
-    → IsStepAt (record_known step.number bytes old) step.number (Some step)
-at_own step bytes None spelt = tt
-at_own step bytes (Some records) spelt =
-    let n = step.number in
-    let same = eq-eqb n n refl in
-    sym (ap (λ (b : Bool). option_and_then (if_numbered n)
-    (option_and_then step_in (cond b (Some bytes) (records n)))) same
-    ∙ ap (option_and_then (if_numbered n)) spelt
-    ∙ ap (λ (b : Bool). cond b (Some step) None) same)
+-- ---- a step
 
-pub recorded_at : (step : StagingStep) (old new : KnownRecords) → IsRecorded step old new
-    → IsStepAt new step.number (Some step)
-recorded_at step old new is =
-    subst (λ known. IsStepAt known step.number (Some step)) (sym is.put)
-    (at_own step is.bytes old is.spelt)
+pub next_step : (records : KnownRecords) (folder : KnownFolder) (number : ℕ)
+    (files : List ReplacedFile) (step : StagingStep) → IsFree records number
+    → IfSome folder (IsFoundBy files) → step.number ≡ number → step.files ≡ files
+    → step.is_undone ≡ false → IsNext records folder step
+next_step records folder number files step free found numbered has not_yet = record {
+  free = subst (IsFree records) (sym numbered) free;
+  not_undone = not_yet;
+  found = subst (λ fs. IfSome folder (IsFoundBy fs)) (sym has) found;
+}
 
-left_partly : (step : StagingStep) (old_records mid new_records : KnownRecords)
-    (old between new : KnownFolder) → IsRecorded step old_records mid → new_records ≡ mid
-    → between ≡ old → IsPartlyDone step.files between new
-    → IsLeft old_records new_records old new
-left_partly step old_records mid new_records old between new is same e part = partly_done step
-    (subst (λ known. IsStepAt known step.number (Some step)) (sym same)
-    (recorded_at step old_records mid is))
-    (subst (λ known. IsPartlyDone step.files known new) e part)
+pub found_files : (folder : KnownFolder) (files wanted : List ReplacedFile) → files ≡ wanted
+    → IfSome folder (IsFoundBy wanted) → IfSome folder (IsFoundBy files)
+found_files folder files wanted same found =
+    subst (λ fs. IfSome folder (IsFoundBy fs)) (sym same) found
 
-pub partly_done_by : (why : Stop) (step : StagingStep) (old_records mid new_records : KnownRecords)
-    (old between new : KnownFolder) → IsRecorded step old_records mid → new_records ≡ mid
-    → between ≡ old → MayChange why → IsPartlyDone step.files between new
+adds_one : (step : StagingStep) (old_records new_records : KnownRecords) (old : KnownFolder)
+    → IsNext old_records old step → MayBeRecorded step old_records new_records
+    → AddAtMostOne old_records new_records old
+adds_one step old_records new_records old next (inl same) = inl same
+adds_one step old_records new_records old next (inr is) =
+    inr (step, record { next = next; recorded = is })
+
+pub not_recorded : (why : Stop) (step : StagingStep) (old_records new_records : KnownRecords)
+    (old new : KnownFolder) → IsNext old_records old step
+    → MayBeRecorded step old_records new_records → new ≡ old
     → LeftBy why old_records new_records old new
-partly_done_by (stop.Refused reason) step old_records mid new_records old between new is same e may
-    part = absurd may
-partly_done_by (stop.Failed reason) step old_records mid new_records old between new is same e may
-    part = left_partly step old_records mid new_records old between new is same e part
-partly_done_by stop.Memory step old_records mid new_records old between new is same e may part =
-    left_partly step old_records mid new_records old between new is same e part
+not_recorded why step old_records new_records old new next may e =
+    adding_by why old_records new_records old new
+    (adds_one step old_records new_records old next may) e
+
+module _ (step : StagingStep) (old_records mid new_records : KnownRecords)
+    (old between new : KnownFolder) (next : IsNext old_records old step)
+    (is : IsRecorded step old_records mid) (same : new_records ≡ mid)
+    (distinct : has_distinct_names step.files ≡ true) (e : between ≡ old)
+    (part : IsPartlyDone step.files between new) where
+  left_partly : IsLeft old_records new_records old new
+  left_partly = partly_done step
+      (record { next = next; recorded = subst (IsRecorded step old_records) (sym same) is })
+      distinct (subst (λ known. IsPartlyDone step.files known new) e part)
+
+  pub partly_done_by : (why : Stop) → MayChange why → LeftBy why old_records new_records old new
+  partly_done_by (stop.Refused reason) may = absurd may
+  partly_done_by (stop.Failed reason) may = left_partly
+  partly_done_by stop.Memory may = left_partly
 
 pub performs : (step : StagingStep) (old_records mid new_records : KnownRecords)
     (old between new : KnownFolder) → IsRecorded step old_records mid → new_records ≡ mid
@@ -122,23 +141,44 @@ none_undone [] old new e = (zero, e ∙ same old)
 none_undone (file ∷ files) old new e = let rest = none_undone files old new e in
     (suc rest.0, rest.1)
 
-pub unchanged_undo : (why : Stop) (files : List ReplacedFile) (old new : KnownFolder)
-    → new ≡ old → LeftByUndo why files old new
-unchanged_undo (stop.Refused reason) files old new e = e
-unchanged_undo (stop.Failed reason) files old new e = none_undone files old new e
-unchanged_undo stop.Memory files old new e = none_undone files old new e
+pub unchanged_undo : (why : Stop) (step : StagingStep) (old_records new_records : KnownRecords)
+    (old new : KnownFolder) → new_records ≡ old_records → new ≡ old
+    → LeftByUndo why step old_records new_records old new
+unchanged_undo (stop.Refused reason) step old_records new_records old new same e = (same, e)
+unchanged_undo (stop.Failed reason) step old_records new_records old new same e =
+    inl (same, none_undone step.files old new e)
+unchanged_undo stop.Memory step old_records new_records old new same e =
+    inl (same, none_undone step.files old new e)
 
-pub partly_undone_by : (why : Stop) (files : List ReplacedFile) (old new : KnownFolder)
-    → MayChange why → IsPartlyUndone files old new → LeftByUndo why files old new
-partly_undone_by (stop.Refused reason) files old new may part = absurd may
-partly_undone_by (stop.Failed reason) files old new may part = part
-partly_undone_by stop.Memory files old new may part = part
+undone_by : (why : Stop) (step : StagingStep) (old_records new_records : KnownRecords)
+    (old new : KnownFolder) → MayChange why → IsLeftUndone step old_records new_records old new
+    → LeftByUndo why step old_records new_records old new
+undone_by (stop.Refused reason) step old_records new_records old new may left = absurd may
+undone_by (stop.Failed reason) step old_records new_records old new may left = left
+undone_by stop.Memory step old_records new_records old new may left = left
 
-pub restored_by : (why : Stop) (files : List ReplacedFile) (old mid new : KnownFolder)
-    → MayChange why → mid ≡ option_map (undone files) old → new ≡ mid
-    → LeftByUndo why files old new
-restored_by why files old mid new may all e =
-    partly_undone_by why files old new may (zero, e ∙ all)
+pub not_restored : (why : Stop) (step : StagingStep) (old_records new_records : KnownRecords)
+    (old new : KnownFolder) → MayChange why → new_records ≡ old_records
+    → IsPartlyUndone step.files old new → LeftByUndo why step old_records new_records old new
+not_restored why step old_records new_records old new may same part =
+    undone_by why step old_records new_records old new may (inl (same, part))
+
+all_restored : (step : StagingStep) (old_records new_records : KnownRecords)
+    (old new : KnownFolder) → new ≡ option_map (undone step.files) old
+    → MayBeRecorded (as_undone step) old_records new_records
+    → IsLeftUndone step old_records new_records old new
+all_restored step old_records new_records old new all (inl same) = inl (same, (zero, all))
+all_restored step old_records new_records old new all (inr is) = inr (is, all)
+
+pub restored_by : (why : Stop) (step : StagingStep)
+    (old_records mid_records new_records : KnownRecords) (old mid new : KnownFolder)
+    → MayChange why → mid ≡ option_map (undone step.files) old
+    → mid_records ≡ old_records → MayBeRecorded (as_undone step) mid_records new_records
+    → new ≡ mid → LeftByUndo why step old_records new_records old new
+restored_by why step old_records mid_records new_records old mid new may all same noted e =
+    undone_by why step old_records new_records old new may
+    (all_restored step old_records new_records old new (e ∙ all)
+    (subst (λ r. MayBeRecorded (as_undone step) r new_records) same noted))
 
 pub undoes : (step : StagingStep) (old_records mid_records new_records : KnownRecords)
     (old mid new : KnownFolder)
@@ -153,13 +193,15 @@ undoes step old_records mid_records new_records old mid new unedited all same no
 }
 
 pub left_undone : (why : Stop) (step : StagingStep) (old_records new_records : KnownRecords)
-    (old new : KnownFolder) → IsLast old_records step → LeftByUndo why step.files old new
+    (old new : KnownFolder) → IsLast old_records step
+    → LeftByUndo why step old_records new_records old new
     → LeftBy why old_records new_records old new
-left_undone (stop.Refused reason) step old_records new_records old new last e = e
-left_undone (stop.Failed reason) step old_records new_records old new last part =
-    partly_undone step last part
-left_undone stop.Memory step old_records new_records old new last part =
-    partly_undone step last part
+left_undone (stop.Refused reason) step old_records new_records old new last left =
+    (inl left.0, left.1)
+left_undone (stop.Failed reason) step old_records new_records old new last left =
+    partly_undone step last left
+left_undone stop.Memory step old_records new_records old new last left =
+    partly_undone step last left
 
 pub last_of : (records : KnownRecords) (recorded : RecordedSteps) (step : StagingStep)
     → AreAllRead records recorded → last_step recorded.steps.items ≡ Some step

@@ -1,5 +1,6 @@
 -- What is known of each part makes a plan.
-use Rattle.std.proofs.Common.{◌≡◌, ℕ, List, Option, Some}
+use Rattle.std.proofs.Common.{◌≡◌, ◌∙◌, ℕ, List, Option, Some, Bool, sym, true, false}
+use Rattle.std.specs.List.{list_any}
 use Rattle.bounded_files.specs.Files.{KnownFiles}
 use Rattle.load.specs.Opened.{IsCollected}
 use Rattle.load.specs.declared.opened.CollectedManifest.{CollectedManifest}
@@ -7,9 +8,13 @@ use Rattle.load.specs.declared.sources.AppSources.{AppSources}
 use Rattle.manifest.specs.App.{file_of}
 use Rattle.stage_folder.specs.Folders.{GivesFile, KnownFolder}
 use Rattle.staging.specs.Halts.{Halts, halting_file}
+use Rattle.staging.specs.InForce.{is_in_force, last_halt}
 use Rattle.staging.specs.Raises.{IsRaised}
-use Rattle.stage_records.specs.Steps.{ReplacedFile}
+use Rattle.stage_records.specs.Steps.{ReplacedFile, StagingStep}
 use Rattle.stage_commands.specs.Apps.{ReplacesBy, app_named}
+use Rattle.stage_commands.specs.Befores.{file_named}
+use Rattle.stage_commands.specs.Resumes.{IsCut, PlansResume, PlansResumeOf, WasBefore}
+use Rattle.stage_commands.specs.Resumes.{replaces_after}
 use Rattle.stage_commands.specs.Stages.{PlansHalt, PlansHaltOf, PlansRaise, PlansRaiseOf}
 
 pub halt_of : (folder : KnownFolder) (app : AppSources) (found : Option (List ℕ))
@@ -58,3 +63,47 @@ raise known manifest appid buckets collected app folder file is found plan = rec
   is_app = record { manifest = collected; collected = is; found = found };
   plan = plan;
 }
+
+pub was_before : (steps : List StagingStep) (app : AppSources) (step : StagingStep)
+    (file : ReplacedFile) (was : List ℕ) (replaced : Bool)
+    → Some step ≡ last_halt steps app.entry.appid
+    → Some file ≡ file_named step.files (file_of app.entry.source) → file.before ≡ Some was
+    → replaced ≡ list_any (replaces_after step.number (file_of app.entry.source)) steps
+    → replaced ≡ false → WasBefore steps app was
+was_before steps app step file was replaced last named before is since = record {
+  step = step;
+  last = sym last;
+  file = file;
+  named = sym named;
+  before = before;
+  not_replaced = sym is ∙ since;
+}
+
+pub resume_of : (folder : KnownFolder) (steps : List StagingStep) (app : AppSources)
+    (buckets : Option ℕ) (was text : List ℕ) (found : Option (List ℕ))
+    (file : Option ReplacedFile) → WasBefore steps app was → IsCut app.shape was text buckets
+    → GivesFile folder (file_of app.entry.source) found
+    → ((known : KnownFolder) → GivesFile known (file_of app.entry.source) found
+    → ReplacesBy known (file_of app.entry.source) text file)
+    → PlansResumeOf folder steps app buckets file
+resume_of folder steps app buckets was text found file halted cut given by = record {
+  text = text;
+  resumes = record { was = was; halted = halted; cut = cut };
+  by = by folder given;
+}
+
+pub resume : (known : KnownFiles) (manifest appid : List ℕ) (buckets : Option ℕ)
+    (collected : CollectedManifest) (app : AppSources) (folder : KnownFolder)
+    (steps : List StagingStep) (file : Option ReplacedFile)
+    → IsCollected known manifest collected
+    → app_named collected.sources.apps.items appid ≡ Some app
+    → is_in_force steps collected.sources.apps.items appid ≡ true
+    → PlansResumeOf folder steps app buckets file
+    → PlansResume known manifest appid buckets folder steps file
+resume known manifest appid buckets collected app folder steps file is found in_force plan =
+    record {
+      app = app;
+      is_app = record { manifest = collected; collected = is; found = found };
+      in_force = in_force;
+      plan = plan;
+    }

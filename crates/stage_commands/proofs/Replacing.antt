@@ -9,11 +9,12 @@ use Rattle.stage_folder.specs.Steps.{IsFoundBy, done}
 use Rattle.stage_folder.specs.declared.records.RecordedSteps.{RecordedSteps}
 use Rattle.stage_records.specs.Steps.{ReplacedFile, StagingStep, last_step}
 use Rattle.stage_records.specs.declared.step.StepAction.{StepAction}
-use Rattle.stage_records.specs.declared.step.StepAction.TheVariants.{Halt, Raise}
+use Rattle.stage_records.specs.declared.step.StepAction.TheVariants.{Halt, Raise, Resume}
 use Rattle.stage_commands.specs.Apps.{Replaces, ReplacesBy}
 use Rattle.stage_commands.specs.Backs.{HasGoneBack, UndoingLiftsNone, Undoes}
 use Rattle.stage_commands.specs.Puts.{HasPut}
 use Rattle.stage_commands.specs.PutPlans.{IsPutPlan}
+use Rattle.stage_commands.specs.Resumes.{HasResumed, PlansResume}
 use Rattle.stage_commands.specs.Stages.{HasHalted, HasRaised, PlansHalt, PlansRaise}
 use Rattle.stage_commands.specs.Taken.{AreAllRead, IsTaken, Takes}
 use Rattle.stage_commands.specs.declared.puts.Plan.{Plan}
@@ -44,6 +45,25 @@ found_file (Some folder) name bytes None by = All-nil (λ f. folder f.name ≡ f
 found_file (Some folder) name bytes (Some file) by =
     All-cons (λ f. folder f.name ≡ f.before) file [] (ap folder by.0 ∙ by.2)
     (All-nil (λ f. folder f.name ≡ f.before))
+
+pub halt_found : (known : KnownFiles) (manifest appid : List ℕ) (folder : KnownFolder)
+    (file : Option ReplacedFile) → PlansHalt known manifest appid folder file
+    → IfSome folder (IsFoundBy (option_to_list file))
+halt_found known manifest appid folder file plans = found_file folder _ _ file plans.plan.by
+
+pub raise_found : (known : KnownFiles) (manifest appid : List ℕ) (buckets : ℕ)
+    (folder : KnownFolder) (file : Option ReplacedFile)
+    → PlansRaise known manifest appid buckets folder file
+    → IfSome folder (IsFoundBy (option_to_list file))
+raise_found known manifest appid buckets folder file plans =
+    found_file folder _ _ file plans.plan.by
+
+pub resume_found : (known : KnownFiles) (manifest appid : List ℕ) (buckets : Option ℕ)
+    (folder : KnownFolder) (steps : List StagingStep) (file : Option ReplacedFile)
+    → PlansResume known manifest appid buckets folder steps file
+    → IfSome folder (IsFoundBy (option_to_list file))
+resume_found known manifest appid buckets folder steps file plans =
+    found_file folder _ _ file plans.plan.by
 
 done_by : (number : ℕ) (did : StepAction) (files : List ReplacedFile)
     (old_records new_records : KnownRecords) (old new : KnownFolder)
@@ -92,6 +112,25 @@ module _ (known : KnownFiles) (manifest appid : List ℕ) (old_records new_recor
     files = option_to_list file;
     taken = taken number (Raise owned buckets) (Raise appid buckets) _ _ _ old new
         (ap (λ a. Raise a buckets) own) free (found_file old _ _ file plan.by) takes;
+  }
+
+  pub resumed : (buckets : Option ℕ) (recorded : RecordedSteps) → owned ≡ appid
+      → IsFree old_records number → AreAllRead old_records recorded
+      → PlansResume known manifest appid buckets old recorded.steps.items file
+      → Takes number (Resume owned buckets) (option_to_list file) old_records new_records old new
+      → HasResumed known manifest appid buckets old_records new_records old new
+  resumed buckets recorded own free are plans takes = let plan = plans.plan in record {
+    recorded = recorded;
+    are = are;
+    app = plans.app;
+    is_app = plans.is_app;
+    in_force = plans.in_force;
+    text = plan.text;
+    resumes = plan.resumes;
+    replaced = replaces old new _ _ file plan.by (done_by _ _ _ _ _ old new takes);
+    files = option_to_list file;
+    taken = taken number (Resume owned buckets) (Resume appid buckets) _ _ _ old new
+        (ap (λ a. Resume a buckets) own) free (found_file old _ _ file plan.by) takes;
   }
 
 pub has_put : StepsLeave → (known : KnownFiles) (current manifest : List ℕ) (anyway : Bool)

@@ -1,12 +1,14 @@
 -- What an action of `stage` does to the files and records of a folder.
-use Rattle.std.specs.Prelude.{◌≡◌, List, ℕ, Bool}
+use Rattle.std.specs.Prelude.{◌≡◌, ◌⊎◌, List, ℕ, Bool}
 use Rattle.bounded_files.specs.Files.{KnownFiles}
 use Rattle.stage_folder.specs.Folders.{KnownFolder, KnownRecords}
 use Rattle.stage_commands.specs.Backs.{HasGoneBack}
 use Rattle.stage_commands.specs.Puts.{HasPut}
 use Rattle.stage_commands.specs.Stages.{HasHalted, HasRaised}
-use Rattle.stage_commands.specs.declared.options.StageAction.{StageAction}
-use Rattle.stage_commands.specs.declared.options.StageAction.TheVariants as action
+use Rattle.stage_commands.specs.Resumes.{HasResumed}
+use Rattle.stage_commands.specs.Taken.{IsLeft}
+use Rattle.stage_records.specs.declared.action.StageAction.{StageAction}
+use Rattle.stage_records.specs.declared.action.StageAction.TheVariants as action
 
 -- nothing has changed
 abbrev pub IsUnchanged : (old_records new_records : KnownRecords) → (old new : KnownFolder)
@@ -27,3 +29,13 @@ module _ (known : KnownFiles) (manifest : List ℕ) (anyway : Bool) where
       HasPut known manifest next.now anyway old_records new_records old new
   IsStaged action.Status old_records new_records old new =
       IsUnchanged old_records new_records old new
+  IsStaged (action.History appid) old_records new_records old new =
+      IsUnchanged old_records new_records old new
+  IsStaged (action.Resume appid buckets) old_records new_records old new =
+      HasResumed known manifest appid.now buckets old_records new_records old new
+
+  -- whatever a call returns: the action is done, or left as a stop leaves it
+  abbrev pub IsStagedOrLeft : StageAction → (old_records new_records : KnownRecords)
+      → (old new : KnownFolder) → Type 0
+  IsStagedOrLeft action old_records new_records old new =
+      IsStaged action old_records new_records old new ⊎ IsLeft old_records new_records old new

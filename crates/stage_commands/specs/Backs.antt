@@ -2,25 +2,14 @@
 use Rattle.std.specs.Prelude.{◌≡◌, ℕ, List, Bool, true, false, Option, Some, None, IfSome}
 use Rattle.std.specs.Prelude.{option_map}
 use Rattle.bounded_files.specs.Files.{KnownFiles}
-use Rattle.load.specs.Opened.{IsCollected}
 use Rattle.load.specs.declared.opened.CollectedManifest.{CollectedManifest}
 use Rattle.stage_folder.specs.Folders.{KnownFolder, KnownRecords}
 use Rattle.stage_folder.specs.Recorded.{IsRecorded}
 use Rattle.stage_folder.specs.Steps.{edited_place, undone}
 use Rattle.stage_records.specs.Steps.{StagingStep}
 use Rattle.staging.specs.InForce.{app_of_halt, lifted_halt}
-use Rattle.stage_commands.specs.Befores.{WasCollected}
-use Rattle.stage_commands.specs.Taken.{IsLast}
-
--- undoing a step lifts no halt of these steps: by the manifests in place and before it; or one of
--- these can't be gathered, and the step isn't a halt
-pub data UndoingLiftsNone (known : KnownFiles) (current : List ℕ) (steps : List StagingStep)
-    (step : StagingStep) : Type 0 where
-  none_lifted : (present before : CollectedManifest) → IsCollected known current present
-      → WasCollected known current step.files before
-      → lifted_halt steps present.sources.apps.items before.sources.apps.items ≡ None
-      → UndoingLiftsNone known current steps step
-  no_halt : app_of_halt step.action ≡ None → UndoingLiftsNone known current steps step
+use Rattle.stage_commands.specs.Befores.{IsGathered, WasGathered}
+use Rattle.stage_commands.specs.Taken.{IsLast, as_undone}
 
 -- the app of a halt that undoing a step lifts; if a manifest can't be gathered, a halt counts as
 -- lifted
@@ -30,15 +19,14 @@ lifted_by_undoing steps step (Some present) (Some before) =
     lifted_halt steps present.sources.apps.items before.sources.apps.items
 lifted_by_undoing steps step present before = app_of_halt step.action
 
--- a step as it is recorded once it is undone
-abbrev pub as_undone : StagingStep → StagingStep
-as_undone step = record {
-  number = step.number;
-  time = step.time;
-  action = step.action;
-  files = step.files;
-  is_undone = true;
-}
+-- undoing a step lifts no halt of these steps, by the manifests in place and before it
+pub record UndoingLiftsNone (known : KnownFiles) (current : List ℕ) (steps : List StagingStep)
+    (step : StagingStep) : Type 0 where
+  pub present : Option CollectedManifest
+  pub gathered : IsGathered known current present
+  pub before : Option CollectedManifest
+  pub was_gathered : WasGathered known current step.files before
+  pub lifts_none : lifted_by_undoing steps step present before ≡ None
 
 -- no file was edited since the step; each of its files is as it found it, all others are as
 -- before, and its record says that it is undone

@@ -2,8 +2,15 @@
 use Rattle.std.specs.Prelude.{◌≡◌, ℕ, List, [], find, codes, Bool, true, false}
 use Rattle.std.specs.Prelude.{if◌then◌else◌, Option, Some, None, option_map, unwrap_or}
 use Rattle.bounded_files.specs.Files.{Gives, KnownFile, KnownFiles, regular_files}
+use Rattle.bounded_files.specs.declared.resource_fault.ResourceFault.TheVariants.{File, Memory}
 use Rattle.load.specs.Folder.{files_in_folder}
+use Rattle.load.specs.Load.{IsLoadFault}
+use Rattle.load.specs.Loaded.{RefusesPath}
+use Rattle.load.specs.Opened.{IsCollected}
 use Rattle.load.specs.Sources.{AreSources}
+use Rattle.load.specs.declared.load_fault.LoadFault.TheVariants.{Cells, Manifest as NoManifest}
+use Rattle.load.specs.declared.load_fault.PathFault.{PathFault}
+use Rattle.load.specs.declared.load_fault.PathFault.TheVariants.{Load, Resource}
 use Rattle.load.specs.declared.opened.CollectedManifest.{CollectedManifest}
 use Rattle.stage_folder.specs.Steps.{has_name}
 use Rattle.stage_records.specs.Steps.{ReplacedFile}
@@ -40,3 +47,36 @@ pub record WasCollected (known : KnownFiles) (current : List ℕ) (replaced : Li
   pub given : GivesBefore known current (file_named replaced (codes "current.toml")) c.bytes.items
   pub are_sources : AreSources (files_then false replaced (files_in_folder known current)) []
       c.bytes.items c.sources
+
+-- ---- manifests that can't be gathered
+
+-- a fault that no app's file decides: the manifest can't be read, isn't one, or has an array that
+-- can't be declared
+abbrev pub precedes_files : PathFault → Bool
+precedes_files (Resource File) = true
+precedes_files (Load (NoManifest fault)) = true
+precedes_files (Load (Cells array fault)) = true
+precedes_files fault = false
+
+-- the manifest in place, gathered with its files; none if it can't be
+abbrev pub IsGathered : KnownFiles → (current : List ℕ) → Option CollectedManifest → Type 0
+IsGathered known current (Some manifest) = IsCollected known current manifest
+IsGathered known current None = (fault : PathFault) × RefusesPath known current [] fault
+    × (precedes_files fault ≡ true)
+
+-- why the manifest as before a step can't be gathered; running out of memory is always allowed
+abbrev pub RefusesBefore : KnownFiles → (current : List ℕ) → PathFault → Option ReplacedFile
+    → Type 0
+RefusesBefore known current (Resource Memory) file = Unit {0}
+RefusesBefore known current fault None = RefusesPath known current [] fault
+RefusesBefore known current (Resource File) (Some file) = ⊥
+RefusesBefore known current (Load fault) (Some file) =
+    IsLoadFault (files_in_folder known current) [] (bytes_then false file) fault
+
+-- the manifest as before a step, gathered with its files; none if it can't be
+abbrev pub WasGathered : KnownFiles → (current : List ℕ) → List ReplacedFile
+    → Option CollectedManifest → Type 0
+WasGathered known current replaced (Some manifest) = WasCollected known current replaced manifest
+WasGathered known current replaced None = (fault : PathFault)
+    × RefusesBefore known current fault (file_named replaced (codes "current.toml"))
+    × (precedes_files fault ≡ true)

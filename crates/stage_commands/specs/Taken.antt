@@ -1,9 +1,9 @@
 -- A step that is recorded and performed, and what a stop leaves.
 use Rattle.std.specs.Prelude.{◌≡◌, ◌⊎◌, ℕ, List, [], true, false, Some, IfSome, option_map}
 use Rattle.stage_folder.specs.Folders.{IsFree, KnownFolder, KnownRecords}
-use Rattle.stage_folder.specs.Recorded.{AreRecorded, IsRecorded, IsStepAt}
+use Rattle.stage_folder.specs.Recorded.{AreRecorded, IsRecorded}
 use Rattle.stage_folder.specs.Steps.{IsFoundBy, IsPartlyDone, IsPartlyUndone, done}
-use Rattle.stage_folder.specs.Steps.{has_distinct_names}
+use Rattle.stage_folder.specs.Steps.{has_distinct_names, undone}
 use Rattle.stage_folder.specs.declared.records.RecordedSteps.{RecordedSteps}
 use Rattle.stage_records.specs.Steps.{ReplacedFile, StagingStep, last_step}
 use Rattle.stage_records.specs.declared.step.StepAction.{StepAction}
@@ -49,21 +49,64 @@ pub record IsTaken (action : StepAction) (files : List ReplacedFile)
   pub found : IfSome old (IsFoundBy files)
   pub takes : Takes number action files old_records new_records old new
 
+-- a step as it is recorded once it is undone
+abbrev pub as_undone : StagingStep → StagingStep
+as_undone step = record {
+  number = step.number;
+  time = step.time;
+  user = step.user;
+  because = step.because;
+  action = step.action;
+  files = step.files;
+  is_undone = true;
+}
+
 -- ---- a stop
 
--- nothing has changed; or the files of a recorded step are replaced in part; or those of the last
--- step that isn't undone are restored in part
-pub data IsLeft (old_records new_records : KnownRecords) (old new : KnownFolder) : Type 0 where
-  unchanged : new ≡ old → IsLeft old_records new_records old new
-  partly_done : (step : StagingStep) → IsStepAt new_records step.number (Some step)
-      → IsPartlyDone step.files old new → IsLeft old_records new_records old new
-  partly_undone : (step : StagingStep) → IsLast old_records step
-      → IsPartlyUndone step.files old new → IsLeft old_records new_records old new
+-- no record has the step's number or a greater one, it isn't undone, and it has the bytes that each
+-- file has
+pub record IsNext (records : KnownRecords) (folder : KnownFolder) (step : StagingStep)
+    : Type 0 where
+  pub free : IsFree records step.number
+  pub not_undone : step.is_undone ≡ false
+  pub found : IfSome folder (IsFoundBy step.files)
 
--- what says that nothing has changed is so
+-- such a step is recorded
+pub record IsAdded (step : StagingStep) (old_records new_records : KnownRecords)
+    (old : KnownFolder) : Type 0 where
+  pub next : IsNext old_records old step
+  pub recorded : IsRecorded step old_records new_records
+
+-- the records are as before, or a step is added
+abbrev pub AddAtMostOne : (old_records new_records : KnownRecords) → (old : KnownFolder) → Type 0
+AddAtMostOne old_records new_records old = (new_records ≡ old_records)
+    ⊎ ((step : StagingStep) × IsAdded step old_records new_records old)
+
+-- some files of a step are restored; or all are, and its record says that it is undone
+abbrev pub IsLeftUndone : StagingStep → (old_records new_records : KnownRecords)
+    → (old new : KnownFolder) → Type 0
+IsLeftUndone step old_records new_records old new =
+    ((new_records ≡ old_records) × IsPartlyUndone step.files old new)
+    ⊎ (IsRecorded (as_undone step) old_records new_records
+    × (new ≡ option_map (undone step.files) old))
+
+-- no file has changed; or a step is added, and its files are replaced in part; or those of the last
+-- step that isn't undone are restored, in part or all
+pub data IsLeft (old_records new_records : KnownRecords) (old new : KnownFolder) : Type 0 where
+  unchanged : AddAtMostOne old_records new_records old → new ≡ old
+      → IsLeft old_records new_records old new
+  partly_done : (step : StagingStep) → IsAdded step old_records new_records old
+      → has_distinct_names step.files ≡ true → IsPartlyDone step.files old new
+      → IsLeft old_records new_records old new
+  partly_undone : (step : StagingStep) → IsLast old_records step
+      → IsLeftUndone step old_records new_records old new
+      → IsLeft old_records new_records old new
+
+-- what says that nothing has changed leaves all files, and adds at most a step
 abbrev pub LeftBy : Stop → (old_records new_records : KnownRecords) → (old new : KnownFolder)
     → Type 0
-LeftBy (stop.Refused reason) old_records new_records old new = new ≡ old
+LeftBy (stop.Refused reason) old_records new_records old new =
+    AddAtMostOne old_records new_records old × (new ≡ old)
 LeftBy other old_records new_records old new = IsLeft old_records new_records old new
 
 -- it doesn't say so
@@ -72,6 +115,9 @@ MayChange (stop.Refused reason) = ⊥
 MayChange other = Unit {0}
 
 -- the same of a step that is to be undone
-abbrev pub LeftByUndo : Stop → List ReplacedFile → (old new : KnownFolder) → Type 0
-LeftByUndo (stop.Refused reason) files old new = new ≡ old
-LeftByUndo other files old new = IsPartlyUndone files old new
+abbrev pub LeftByUndo : Stop → StagingStep → (old_records new_records : KnownRecords)
+    → (old new : KnownFolder) → Type 0
+LeftByUndo (stop.Refused reason) step old_records new_records old new =
+    (new_records ≡ old_records) × (new ≡ old)
+LeftByUndo other step old_records new_records old new =
+    IsLeftUndone step old_records new_records old new

@@ -1,27 +1,33 @@
 //! One action of `stage`, from the folder to the servers.
 
 ghost use Rattle.std.specs.Prelude.{◌≡◌, IfErr, IfOk, OnOk, false, true};
-ghost use Rattle.stage_commands.specs.Actions.{IsStaged, IsUnchanged};
+ghost use Rattle.stage_commands.specs.Actions.{IsStaged, IsStagedOrLeft, IsUnchanged};
 ghost use Rattle.stage_commands.specs.Taken.{LeftBy};
 
 use crate::app_halts::halt;
 use crate::backs::go_back;
+use crate::drift::stop_if_drifted;
+use crate::history::push_history;
 use crate::loads::load_all;
-use crate::options::{StageAction, StageCall, StageOptions};
+use crate::options::{StageCall, StageOptions};
 use crate::outcome::{Lines, StageOutcome, Stop};
 use crate::puts::put;
 use crate::raises::raise;
+use crate::resumes::resume;
+use crate::server_halts::{apps_halted, apps_lifted};
+use crate::serves::Surveyed;
 use crate::status::push_status;
-use crate::stop_texts::in_folder;
+use crate::survey::survey;
 use bounded_files::Disk;
-use stage_folder::{DeviceFolder, FolderFault, StageFolder};
-use std::alloc::{AllocError, Global};
-use std::fs::File;
+use stage_folder::StageFolder;
+use stage_records::StageAction;
+use std::alloc::AllocError;
 use std::net::{Net, TcpStream};
 use std::rt::Files;
 use std::time::Clock;
 
-// Changes the files as the action says. A status changes nothing.
+// Changes the files as the action says. A status and a history change nothing.
+#[tactic(auto, using(crate::proofs::Left::unchanged_by))]
 fn change_files<R, D, F>(
     call: &StageCall<'_, R, D>,
     folder: &mut F,
@@ -46,12 +52,90 @@ where
         StageAction::Raise { appid, buckets } => raise(call, folder, appid, buckets, lines),
         StageAction::Back => go_back(call, folder, lines),
         StageAction::Put { manifest } => put(call, folder, manifest, lines),
+        StageAction::Resume { appid, buckets } => resume(call, folder, appid, buckets, lines),
         StageAction::Status => Ok(()),
+        StageAction::History { .. } => Ok(()),
     }
 }
 
-// Prints the status; or changes the files, and has the servers load the manifest. Returns whether
-// all is done.
+// What is found before anything is changed: what each server serves, and which apps are halted.
+#[derive(Drop)]
+struct Found {
+    servers: Vec<Surveyed>,
+    halted: Vec<String>,
+}
+
+// The same; or why the action stops, by what a server serves.
+fn found_before<R, D, F>(
+    call: &StageCall<'_, R, D>,
+    folder: &F,
+    action: &StageAction<'_>,
+    lines: &mut Lines,
+) -> Result<Found, Stop>
+where
+    R: AllocGlobal + Net<Stream = TcpStream>,
+    D: Disk,
+    F: StageFolder,
+{
+    let Ok(servers) = survey(call, folder, action) else {
+        return Err(Stop::Memory);
+    };
+    if let Err(stop) = stop_if_drifted(call, folder, &servers, action, lines) {
+        drop(servers);
+        return Err(stop);
+    }
+    match apps_halted(call, folder, action) {
+        Ok(halted) => Ok(Found { servers, halted }),
+        Err(_) => {
+            drop(servers);
+            Err(Stop::Memory)
+        }
+    }
+}
+
+// Changes the files, and has the servers load the manifest. Returns whether all is done.
+#[tactic(auto, using(crate::proofs::Left::unchanged_by))]
+fn change_and_load<R, D, F>(
+    call: &StageCall<'_, R, D>,
+    folder: &mut F,
+    action: &StageAction<'_>,
+    lines: &mut Lines,
+) -> Result<bool, Stop>
+where
+    R: Files + AllocGlobal + Clock + Net<Stream = TcpStream>,
+    D: Disk,
+    F: StageFolder,
+    ensures done { OnOk result (call.now.options.now.dry_run ≡ false
+        → IsStaged (D.known call.now.disk.now) call.now.manifest.now call.now.options.now.anyway
+        action.now (F.records folder.old) (F.records folder.new) (F.files folder.old)
+        (F.files folder.new)) }
+    ensures stopped { IfErr result (λ stop. LeftBy stop (F.records folder.old)
+        (F.records folder.new) (F.files folder.old) (F.files folder.new)) }
+    ensures unchanged { call.now.options.now.dry_run ≡ true → IsUnchanged (F.records folder.old)
+        (F.records folder.new) (F.files folder.old) (F.files folder.new) }
+{
+    let Found { servers, halted } = match found_before(call, &*folder, action, lines) {
+        Ok(found) => found,
+        Err(stop) => return Err(stop),
+    };
+    let call = StageCall {
+        rt: call.rt,
+        disk: call.disk,
+        manifest: call.manifest,
+        options: call.options,
+        servers: &servers,
+    };
+    match change_files(&call, folder, action, lines) {
+        Ok(()) => {
+            let lifted = apps_lifted(&call, halted);
+            Ok(load_all(&call, &*folder, action, &lifted, lines))
+        }
+        Err(stop) => Err(stop),
+    }
+}
+
+// Prints the status or the history; or changes the files, and has the servers load the manifest.
+// Returns whether all is done.
 #[tactic(auto, using(crate::proofs::Left::unchanged_by))]
 fn act<R, D, F>(
     call: &StageCall<'_, R, D>,
@@ -78,9 +162,53 @@ where
             Err(stop) => Err(stop),
         };
     }
-    match change_files(call, folder, action, lines) {
-        Ok(()) => Ok(load_all(call, &*folder, lines)),
+    if let StageAction::History { appid } = action {
+        return match push_history(call, &*folder, *appid, lines) {
+            Ok(is_whole) => Ok(is_whole),
+            Err(stop) => Err(stop),
+        };
+    }
+    match change_and_load(call, folder, action, lines) {
+        Ok(is_done) => Ok(is_done),
         Err(stop) => Err(stop),
+    }
+}
+
+/// The same as `stage_in`, after these lines.
+#[tactic(auto, using(crate::proofs::Left::left_by))]
+pub(crate) fn stage_on<R, D, F>(
+    rt: &R,
+    disk: &D,
+    folder: &mut F,
+    manifest: &str,
+    action: &StageAction<'_>,
+    options: &StageOptions<'_>,
+    lines: Lines,
+) -> Result<StageOutcome, AllocError>
+where
+    R: Files + AllocGlobal + Clock + Net<Stream = TcpStream>,
+    D: Disk,
+    F: StageFolder,
+    ensures done { IfOk result (λ outcome. outcome.is_done ≡ true → options.now.dry_run ≡ false
+        → IsStaged (D.known disk.now) manifest.now options.now.anyway action.now
+        (F.records folder.old) (F.records folder.new) (F.files folder.old) (F.files folder.new)) }
+    ensures left { options.now.dry_run ≡ false → IsStagedOrLeft (D.known disk.now) manifest.now
+        options.now.anyway action.now (F.records folder.old) (F.records folder.new)
+        (F.files folder.old) (F.files folder.new) }
+    ensures unchanged { options.now.dry_run ≡ true → IsUnchanged (F.records folder.old)
+        (F.records folder.new) (F.files folder.old) (F.files folder.new) }
+{
+    let call = StageCall {
+        rt,
+        disk,
+        manifest,
+        options,
+        servers: &[],
+    };
+    let mut lines = lines;
+    match act(&call, folder, action, &mut lines) {
+        Ok(is_done) => lines.into_outcome(is_done),
+        Err(stop) => lines.into_stopped(stop),
     }
 }
 
@@ -104,81 +232,19 @@ where
     ensures done { IfOk result (λ outcome. outcome.is_done ≡ true → options.now.dry_run ≡ false
         → IsStaged (D.known disk.now) manifest.now options.now.anyway action.now
         (F.records folder.old) (F.records folder.new) (F.files folder.old) (F.files folder.new)) }
+    ensures left { options.now.dry_run ≡ false → IsStagedOrLeft (D.known disk.now) manifest.now
+        options.now.anyway action.now (F.records folder.old) (F.records folder.new)
+        (F.files folder.old) (F.files folder.new) }
     ensures unchanged { options.now.dry_run ≡ true → IsUnchanged (F.records folder.old)
         (F.records folder.new) (F.files folder.old) (F.files folder.new) }
 {
-    let call = StageCall {
+    stage_on(
         rt,
         disk,
+        folder,
         manifest,
+        action,
         options,
-    };
-    let mut lines = Lines::new(rt.alloc());
-    match act(&call, folder, action, &mut lines) {
-        Ok(is_done) => lines.into_outcome(is_done),
-        Err(stop) => lines.into_stopped(stop),
-    }
-}
-
-// The path of the manifest in a folder.
-fn manifest_in(alloc: Global, folder: &str) -> Result<String, AllocError> {
-    format!(in alloc; "{folder}/current.toml")
-}
-
-// Refuses the folder while another call is at work in it. A status only looks.
-fn lock_for<F: StageFolder>(folder: &mut F, action: &StageAction<'_>) -> Result<(), FolderFault> {
-    match *action {
-        StageAction::Status => Ok(()),
-        _ => folder.lock(),
-    }
-}
-
-// Does an action in a folder that is open, and not locked yet.
-fn stage_opened<R, D, F>(
-    rt: &R,
-    disk: &D,
-    folder: &mut F,
-    action: &StageAction<'_>,
-    options: &StageOptions<'_>,
-) -> Result<StageOutcome, AllocError>
-where
-    R: Files + AllocGlobal + Clock + Net<Stream = TcpStream>,
-    D: Disk,
-    F: StageFolder,
-{
-    if let Err(fault) = lock_for(folder, action) {
-        return stopped(rt.alloc(), options, fault);
-    }
-    match manifest_in(rt.alloc(), folder.path()) {
-        Ok(manifest) => stage_in(rt, disk, folder, manifest.as_str(), action, options),
-        Err(_) => Err(AllocError),
-    }
-}
-
-fn stopped(
-    alloc: Global,
-    options: &StageOptions<'_>,
-    fault: FolderFault,
-) -> Result<StageOutcome, AllocError> {
-    Lines::new(alloc).into_stopped(in_folder(alloc, options.folder, fault))
-}
-
-/// Does an action in the folder of the options, and has the servers load its `current.toml`. Stops
-/// if another call is at work in that folder.
-// open: whether an allocation fails, its one error; what a device's folder has. `stage_in` says
-// what is done.
-pub fn stage<R, D>(
-    rt: &R,
-    disk: &D,
-    action: &StageAction<'_>,
-    options: &StageOptions<'_>,
-) -> Result<StageOutcome, AllocError>
-where
-    R: Files<File = File> + AllocGlobal + Clock + Net<Stream = TcpStream>,
-    D: Disk,
-{
-    match DeviceFolder::open(rt, options.folder) {
-        Ok(mut folder) => stage_opened(rt, disk, &mut folder, action, options),
-        Err(fault) => stopped(rt.alloc(), options, fault),
-    }
+        Lines::new(rt.alloc()),
+    )
 }

@@ -1,11 +1,12 @@
 //! `stage back`: the last step that isn't undone is undone.
 
-ghost use Rattle.std.specs.Prelude.{◌≡◌, IfErr, IfOk, IfSome, OnOk, Some, None, false, option_map};
+ghost use Rattle.std.specs.Prelude.{◌≡◌, IfErr, IfOk, IfSome, OnErr, OnOk, Some, None, false};
+ghost use Rattle.std.specs.Prelude.{option_map};
 ghost use Rattle.std.specs.Prelude.{true};
 ghost use Rattle.stage_commands.specs.Actions.{IsUnchanged};
-ghost use Rattle.stage_commands.specs.Backs.{HasGoneBack, UndoingLiftsNone, Undoes, as_undone};
-ghost use Rattle.stage_commands.specs.Taken.{LeftBy, LeftByUndo, MayChange};
-ghost use Rattle.stage_folder.specs.Recorded.{IsRecorded};
+ghost use Rattle.stage_commands.specs.Backs.{HasGoneBack, UndoingLiftsNone, Undoes};
+ghost use Rattle.stage_commands.specs.Taken.{LeftBy, LeftByUndo, MayChange, as_undone};
+ghost use Rattle.stage_folder.specs.Recorded.{IsRecorded, MayBeRecorded};
 ghost use Rattle.stage_folder.specs.Steps.{edited_place, undone};
 ghost use Rattle.stage_records.specs.Steps.{last_step};
 
@@ -36,7 +37,7 @@ fn take_last(steps: Vec<StagingStep>) -> Option<StagingStep>
 }
 
 // Restores the files of a step.
-#[tactic(auto, using(crate::proofs::Left::unchanged_undo, crate::proofs::Left::partly_undone_by))]
+#[tactic(auto, using(crate::proofs::Left::unchanged_undo, crate::proofs::Left::not_restored))]
 fn restore_files<F: StageFolder>(
     alloc: Global,
     folder: &mut F,
@@ -46,8 +47,8 @@ fn restore_files<F: StageFolder>(
         (λ known. edited_place step.now.files known ≡ None)) }
     ensures restored { OnOk result
         (F.files folder.new ≡ option_map (undone step.now.files) (F.files folder.old)) }
-    ensures stopped { IfErr result (λ stop.
-        LeftByUndo stop step.now.files (F.files folder.old) (F.files folder.new)) }
+    ensures stopped { IfErr result (λ stop. LeftByUndo stop step.now (F.records folder.old)
+        (F.records folder.new) (F.files folder.old) (F.files folder.new)) }
     ensures records { F.records folder.new ≡ F.records folder.old }
 {
     match undo(folder, &step.files) {
@@ -69,7 +70,9 @@ fn note_undone<F: StageFolder>(
 ) -> Result<(), Stop>
     ensures recorded { OnOk result
         (IsRecorded (as_undone step.old) (F.records folder.old) (F.records folder.new)) }
-    ensures stopped { IfErr result MayChange }
+    ensures says { IfErr result MayChange }
+    ensures failed { OnErr result
+        (MayBeRecorded (as_undone step.old) (F.records folder.old) (F.records folder.new)) }
     ensures files { F.files folder.new ≡ F.files folder.old }
 {
     step.is_undone = true;
@@ -88,8 +91,8 @@ fn undo_step<F: StageFolder>(
 ) -> Result<(), Stop>
     ensures done { OnOk result (Undoes step.old (F.records folder.old) (F.records folder.new)
         (F.files folder.old) (F.files folder.new)) }
-    ensures stopped { IfErr result (λ stop.
-        LeftByUndo stop step.old.files (F.files folder.old) (F.files folder.new)) }
+    ensures stopped { IfErr result (λ stop. LeftByUndo stop step.old (F.records folder.old)
+        (F.records folder.new) (F.files folder.old) (F.files folder.new)) }
 {
     if let Err(stop) = restore_files(alloc, folder, &*step) {
         return Err(stop);
@@ -111,8 +114,8 @@ fn undo_unless_dry<F: StageFolder>(
 ) -> Result<(), Stop>
     ensures done { OnOk result (dry_run ≡ false → Undoes step.old (F.records folder.old)
         (F.records folder.new) (F.files folder.old) (F.files folder.new)) }
-    ensures stopped { IfErr result (λ stop.
-        LeftByUndo stop step.old.files (F.files folder.old) (F.files folder.new)) }
+    ensures stopped { IfErr result (λ stop. LeftByUndo stop step.old (F.records folder.old)
+        (F.records folder.new) (F.files folder.old) (F.files folder.new)) }
     ensures unchanged { dry_run ≡ true → IsUnchanged (F.records folder.old)
         (F.records folder.new) (F.files folder.old) (F.files folder.new) }
 {

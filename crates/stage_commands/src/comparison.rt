@@ -6,8 +6,10 @@ ghost use Rattle.stage_commands.specs.Compared.{AreAllJudged};
 use crate::counters::least_counters;
 use crate::options::StageCall;
 use crate::outcome::{Lines, Stop};
+use crate::served_rows::push_all_rows;
 use crate::stop_texts::{LOSES, not_compared, refused};
 use attrs::Elapsed;
+use bounded_files::Disk;
 use cell_assignments::{CellAssignment, read_assignments};
 use load::JudgedManifest;
 use manifest_diff::{DiffOptions, DiffOutput, OpenedBoth, diff_manifests};
@@ -58,8 +60,10 @@ where
     }
 }
 
-// The same after the quotas that each server has used, with the least values of their counters.
-fn push_comparison<R, D>(
+/// Prints what changes from today on, from one manifest to another, after the quotas that each
+/// server has used, with the least values of their counters. Returns whether somebody may lose a
+/// release.
+pub(crate) fn push_comparison<R, D>(
     call: &StageCall<'_, R, D>,
     both: &OpenedBoth,
     lines: &mut Lines,
@@ -78,8 +82,9 @@ where
     push_rows(call.rt, both, &cells, &mut lines.text)
 }
 
-/// Prints what changes from today on. A lost row, or an app that isn't compared, is a refusal,
-/// unless `--anyway` is given.
+/// Prints what changes from today on: from what is in place, and from what each server serves, if
+/// that is something else. A lost row, or an app that isn't compared, is a refusal, unless
+/// `--anyway` is given.
 #[tactic(auto, using(crate::proofs::Opening::both_kept))]
 pub(crate) fn compare<R, D>(
     call: &StageCall<'_, R, D>,
@@ -89,11 +94,12 @@ pub(crate) fn compare<R, D>(
 ) -> Result<(), Stop>
 where
     R: AllocGlobal + Clock + Net<Stream = TcpStream>,
+    D: Disk,
     requires old { AreAllJudged old }
     requires new { AreAllJudged new }
 {
-    let both = OpenedBoth { old, new };
-    let lost = push_comparison(call, &both, lines);
+    let mut both = OpenedBoth { old, new };
+    let lost = push_all_rows(call, &mut both, lines);
     drop(both);
     match lost {
         Ok(true) => lines.go_on_if(call.options.anyway, refused(call.rt.alloc(), LOSES)),

@@ -7,7 +7,7 @@
 // No contract says what is noted: bench/outside tests it.
 
 use printing::TextBuffer;
-use stage_folder::StageFolder;
+use stage_folder::{FolderNote, StageFolder};
 use std::alloc::{AllocError, Global};
 use std::str;
 
@@ -20,7 +20,7 @@ pub(crate) struct LoadNote<'a> {
 
 /// The notes of a folder; empty if there are none that can be read.
 pub(crate) fn read_notes<F: StageFolder>(alloc: Global, folder: &F) -> Result<String, AllocError> {
-    match folder.read_loads() {
+    match folder.read_note(FolderNote::Loads) {
         Ok(Some(bytes)) => String::from_str(alloc, str::from_utf8(&bytes).unwrap_or("")),
         _ => Ok(String::new(alloc)),
     }

@@ -3,16 +3,20 @@
 // No contract says what is printed or noted: bench/outside tests it.
 
 use crate::collected::digest_text;
+use crate::drift::is_spared;
 use crate::load_notes::{LoadNote, read_notes, with_note};
 use crate::options::StageCall;
 use crate::outcome::Lines;
 use crate::removed_apps::{apps_shown, push_removed};
+use crate::server_halts::resume_at;
+use crate::serves::server_at;
 use bounded_files::Disk;
 use load::{CollectedManifest, collect_manifest};
 use operator::{RequestFault, ask_server};
 use operator_request::OperatorRequest;
 use printing::TextBuffer;
-use stage_folder::StageFolder;
+use stage_folder::{FolderNote, StageFolder};
+use stage_records::StageAction;
 use std::alloc::{AllocError, Global};
 use std::net::{Net, TcpStream};
 
@@ -47,6 +51,9 @@ where
         Ok(reply) => {
             lines.text.push_number("server at ", port as u64, ": ");
             lines.text.push(reply.as_str().trim_end());
+            if let Some(server) = server_at(call.servers, port) {
+                server.push_halted(&mut lines.text);
+            }
             lines.text.push("\n");
             Some(reply)
         }
@@ -102,14 +109,50 @@ where
     true
 }
 
-// Has each server load the manifest, and notes the loads. Returns the ports of those that didn't,
-// each after a space. If the notes can't be written, a status only doesn't know of these loads.
+// Has the server at a port load the manifest, unless it is spared. Returns whether it loaded.
+fn load_unless_spared<R, D, F>(
+    call: &StageCall<'_, R, D>,
+    folder: &F,
+    port: u16,
+    collected: Option<&CollectedManifest>,
+    action: &StageAction<'_>,
+    notes: &mut String,
+    lines: &mut Lines,
+) -> bool
+where
+    R: AllocGlobal + Net<Stream = TcpStream>,
+    F: StageFolder,
+{
+    let apps = match collected {
+        Some(collected) => collected.sources.apps.as_slice(),
+        None => &[],
+    };
+    if let Some(server) = server_at(call.servers, port)
+        && is_spared(call, folder, server, action, apps, lines)
+    {
+        return false;
+    }
+    load_noted(call, port, collected, notes, lines)
+}
+
+// What became of the loads: the ports of the servers that have none, each after a space, and
+// whether the others offer again what they were to offer.
+#[derive(Drop)]
+struct Loads {
+    refused: String,
+    are_resumed: bool,
+}
+
+// Has each server load the manifest, notes the loads, and then has it offer these apps again. If
+// the notes can't be written, a status only doesn't know of these loads.
 fn load_each<R, D, F>(
     call: &StageCall<'_, R, D>,
     folder: &F,
     collected: Option<&CollectedManifest>,
+    action: &StageAction<'_>,
+    lifted: &[String],
     lines: &mut Lines,
-) -> Result<String, AllocError>
+) -> Result<Loads, AllocError>
 where
     R: AllocGlobal + Net<Stream = TcpStream>,
     F: StageFolder,
@@ -118,19 +161,33 @@ where
         return Err(AllocError);
     };
     let mut refused = TextBuffer::new(call.rt.alloc());
+    let mut are_resumed = true;
     for port in call.options.ports() {
-        if !load_noted(call, *port, collected, &mut notes, lines) {
+        if load_unless_spared(call, folder, *port, collected, action, &mut notes, lines) {
+            are_resumed = resume_at(call.rt, *port, lifted, lines) && are_resumed;
+        } else {
             refused.push_number(" ", *port as u64, "");
         }
     }
     if !notes.is_empty() {
-        let _noted = folder.write_loads(notes.as_bytes());
+        let _noted = folder.write_note(FolderNote::Loads, notes.as_bytes());
     }
-    refused.finish()
+    let refused = refused.finish()?;
+    Ok(Loads {
+        refused,
+        are_resumed,
+    })
 }
 
-/// Has each server load the manifest, whatever the others do. Returns whether all did.
-pub(crate) fn load_all<R, D, F>(call: &StageCall<'_, R, D>, folder: &F, lines: &mut Lines) -> bool
+/// Has each server load the manifest, whatever the others do, and then offer these apps again,
+/// whose halts are lifted. Returns whether all did.
+pub(crate) fn load_all<R, D, F>(
+    call: &StageCall<'_, R, D>,
+    folder: &F,
+    action: &StageAction<'_>,
+    lifted: &[String],
+    lines: &mut Lines,
+) -> bool
 where
     R: AllocGlobal + Net<Stream = TcpStream>,
     D: Disk,
@@ -140,14 +197,15 @@ where
         return true;
     }
     let collected = collect_manifest(call.rt.alloc(), call.disk, call.manifest).ok();
-    let each = load_each(call, folder, collected.as_ref(), lines);
+    let each = load_each(call, folder, collected.as_ref(), action, lifted, lines);
     drop(collected);
     match each {
-        Ok(refused) if refused.is_empty() => true,
-        Ok(refused) => {
+        Ok(loads) if loads.refused.is_empty() => loads.are_resumed,
+        Ok(loads) => {
             lines.stderr.push("stage: not loaded at");
-            lines.stderr.push(refused.as_str());
-            lines.stderr.push("; the files are in place, so mend it and call this again\n");
+            lines.stderr.push(loads.refused.as_str());
+            let advice = "; the files are in place: mend that, and then call rollout load ";
+            lines.stderr.push_printed(advice, call.manifest, "\n");
             false
         }
         Err(_) => {

@@ -1,21 +1,8 @@
-//! What `stage` does with the folder of a manifest, how, and with what.
+//! How `stage` does an action in the folder of a manifest, and with what.
 
-/// What is done with the folder of a manifest.
-#[derive(Clone, Copy)]
-pub enum StageAction<'a> {
-    /// Replaces the app's file by one that offers no release.
-    Halt { appid: &'a str },
-    /// Changes the number of buckets in the app's rule, to 0 to 10000.
-    Raise { appid: &'a str, buckets: u32 },
-    /// Undoes the last step that isn't undone.
-    Back,
-    /// Puts the manifest at a path, and the files that it names, in place.
-    Put { manifest: &'a str },
-    /// Prints the steps, and what is served.
-    Status,
-}
+use crate::serves::Surveyed;
 
-/// How it is done.
+/// How an action is done.
 #[derive(Clone, Copy)]
 pub struct StageOptions<'a> {
     /// The operator's ports of the servers that load the manifest; if there is none, 8081.
@@ -24,12 +11,18 @@ pub struct StageOptions<'a> {
     pub folder: &'a str,
     /// The log of a server, for the status.
     pub log: Option<&'a str>,
+    /// The user who is recorded with a step, and why the step is taken.
+    pub user: Option<&'a str>,
+    pub because: Option<&'a str>,
     /// Whether no server loads the manifest.
     pub no_load: bool,
     /// Whether nothing is changed, and only printed what would be.
     pub dry_run: bool,
-    /// Whether it continues if a release would be lost, a halt lifted, or another app also changed.
+    /// Whether it continues if a release would be lost, a halt lifted, or another app also changed,
+    /// or if a server serves something else than is in place.
     pub anyway: bool,
+    /// Whether it continues at a server that serves an app of neither side.
+    pub other_server: bool,
 }
 
 /// The operator's port if none is named.
@@ -53,4 +46,6 @@ pub(crate) struct StageCall<'a, R, D> {
     /// The path of the manifest in place.
     pub(crate) manifest: &'a str,
     pub(crate) options: &'a StageOptions<'a>,
+    /// What each server served before; empty if no server is to load.
+    pub(crate) servers: &'a [Surveyed],
 }

@@ -15,11 +15,13 @@ pub struct StageOutcome {
     pub is_done: bool,
 }
 
-/// The lines that are printed so far.
+/// The lines that are printed so far, and the operator's ports of the servers at which an app is
+/// halted, though not yet in the files.
 #[derive(Drop)]
 pub(crate) struct Lines {
     pub(crate) text: TextBuffer,
     pub(crate) stderr: TextBuffer,
+    halted_at: Vec<u16>,
 }
 
 /// Why nothing more is done.
@@ -47,7 +49,20 @@ impl Lines {
         Lines {
             text: TextBuffer::new(alloc),
             stderr: TextBuffer::new(alloc),
+            halted_at: Vec::new(alloc),
         }
+    }
+
+    /// Notes that an app is halted at the server of a port, though not yet in the files.
+    pub(crate) fn note_halt(&mut self, port: u16) {
+        if self.halted_at.push(port).is_err() {
+            self.stderr.leave_out();
+        }
+    }
+
+    /// The ports of the servers at which the app of a halt is halted.
+    pub(crate) fn halted_ports(&self) -> &[u16] {
+        &self.halted_at
     }
 
     /// Whether no piece of a line is left out.
@@ -65,10 +80,31 @@ impl Lines {
     // Adds the reason of a stop.
     fn push_stop(&mut self, stop: Stop) {
         match stop {
-            Stop::Refused(reason) => self.push_reason(reason, "; nothing has changed\n"),
+            Stop::Refused(reason) => self.push_reason(reason, self.unchanged()),
             Stop::Failed(reason) => self.push_reason(reason, "\n"),
             Stop::Memory => self.stderr.leave_out(),
         }
+        self.push_halted();
+    }
+
+    // What hasn't changed, if a call stops before it changes a file.
+    fn unchanged(&self) -> &'static str {
+        if self.halted_at.is_empty() {
+            return "; nothing has changed\n";
+        }
+        "; no file has changed\n"
+    }
+
+    // Adds the ports at which the app of a halt is halted all the same.
+    fn push_halted(&mut self) {
+        if self.halted_at.is_empty() {
+            return;
+        }
+        self.stderr.push("stage: halted until a restart at");
+        for port in &self.halted_at {
+            self.stderr.push_number(" ", *port as u64, "");
+        }
+        self.stderr.push(": mend this, and call it again\n");
     }
 
     /// Continues in spite of a refusal, if `--anyway` is given.
@@ -91,7 +127,7 @@ impl Lines {
     pub(crate) fn into_outcome(self, is_done: bool) -> Result<StageOutcome, AllocError>
         ensures { IfOk result (λ outcome. outcome.is_done ≡ is_done) }
     {
-        let Lines { text, stderr } = self;
+        let Lines { text, stderr, .. } = self;
         let Ok(text) = text.finish() else {
             return Err(AllocError);
         };

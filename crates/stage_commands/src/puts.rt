@@ -100,6 +100,7 @@ fn compare_judged<R, D>(
 ) -> Result<(), Stop>
 where
     R: AllocGlobal + Clock + Net<Stream = TcpStream>,
+    D: Disk,
     requires { AreAllJudged next }
 {
     let CollectedManifest { bytes, sources } = present;
@@ -122,6 +123,7 @@ fn compare_next<R, D>(
 ) -> Result<(), Stop>
 where
     R: AllocGlobal + Clock + Net<Stream = TcpStream>,
+    D: Disk,
     requires { AreAllJudged next }
     ensures { OnOk result (call.now.options.now.anyway ≡ false → IsUnrefused present) }
 {

@@ -5,25 +5,21 @@ ghost use Rattle.bounded_files.specs.Files.{KnownFiles};
 ghost use Rattle.load.specs.Opened.{IsCollected};
 ghost use Rattle.manifest.specs.App.{file_of};
 ghost use Rattle.staging.specs.Raises.{IsRaised};
-ghost use Rattle.stage_commands.specs.Compared.{AreAllJudged};
 ghost use Rattle.stage_commands.specs.Actions.{IsUnchanged};
 ghost use Rattle.stage_commands.specs.Stages.{HasRaised, PlansRaise, PlansRaiseOf};
 ghost use Rattle.stage_commands.specs.Taken.{LeftBy};
 ghost use Rattle.stage_folder.specs.Folders.{GivesFile};
 
 use crate::app_file::{app_to_change, replacement};
-use crate::collected::{collected_at, judged, judged_at};
-use crate::comparison::compare;
+use crate::collected::collected_at;
+use crate::next_rows::compare_with;
 use crate::options::StageCall;
 use crate::outcome::{Lines, Stop};
-use crate::replaced_files::sources_with;
 use crate::steps::{number_in, owned_text, read_steps};
-use crate::stop_texts::{
-    HAS_PROGRAM, IS_HALTED, NO_TEXT, in_folder, next_refused, not_raised, refusal_of,
-};
+use crate::stop_texts::{HAS_PROGRAM, IS_HALTED, NO_TEXT, in_folder, not_raised, refusal_of};
 use crate::taking::take_file;
 use bounded_files::Disk;
-use load::{AppSources, CollectedManifest, JudgedManifest};
+use load::{AppSources, CollectedManifest};
 use manifest::ProgramSource;
 use stage_folder::StageFolder;
 use stage_records::{ReplacedFile, StepAction};
@@ -31,11 +27,16 @@ use staging::{halting_file, raised_rule};
 use std::alloc::Global;
 use std::net::{Net, TcpStream};
 use std::rt::Files;
+use std::str;
 use std::time::Clock;
-use std::{slice, str};
 
-// The raised text of a rule with these bytes.
-fn raised_text(alloc: Global, app: &AppSources, bytes: &[u8], buckets: u32) -> Result<String, Stop>
+/// The raised text of a rule with these bytes.
+pub(crate) fn raised_text(
+    alloc: Global,
+    app: &AppSources,
+    bytes: &[u8],
+    buckets: u32,
+) -> Result<String, Stop>
     ensures { IfOk result (λ text.
         IsRaised app.now.shape bytes.now (string_bytes text) buckets) }
 {
@@ -89,58 +90,6 @@ fn raised_file_of<F: StageFolder>(
     let name = app.entry.source().file();
     let file = replacement(alloc, name, Some(bytes), text.as_bytes())?;
     Ok(file)
-}
-
-// The manifest in place, with another file.
-fn judged_with<D: Disk>(
-    alloc: Global,
-    disk: &D,
-    manifest: &str,
-    bytes: &[u8],
-    file: &ReplacedFile,
-) -> Result<JudgedManifest, Stop>
-    ensures { IfOk result AreAllJudged }
-{
-    let replaced = slice::from_ref(file);
-    let sources = match sources_with(alloc, disk, manifest, bytes, replaced, true) {
-        Ok(sources) => sources,
-        Err(fault) => return Err(next_refused(alloc, fault)),
-    };
-    match judged(alloc, bytes, sources) {
-        Ok(opened) => Ok(opened),
-        Err(fault) => Err(next_refused(alloc, fault)),
-    }
-}
-
-// Prints what changes by another file. A lost row is a refusal, unless `--anyway` is given.
-fn compare_with<R, D>(
-    call: &StageCall<'_, R, D>,
-    collected: CollectedManifest,
-    file: &ReplacedFile,
-    lines: &mut Lines,
-) -> Result<(), Stop>
-where
-    R: AllocGlobal + Clock + Net<Stream = TcpStream>,
-    D: Disk,
-{
-    let alloc = call.rt.alloc();
-    let CollectedManifest { bytes, sources } = collected;
-    let old = match judged_at(alloc, call.manifest, &bytes, sources) {
-        Ok(old) => old,
-        Err(stop) => {
-            drop(bytes);
-            return Err(stop);
-        }
-    };
-    let next = judged_with(alloc, call.disk, call.manifest, &bytes, file);
-    drop(bytes);
-    match next {
-        Ok(new) => compare(call, old, new, lines),
-        Err(stop) => {
-            drop(old);
-            Err(stop)
-        }
-    }
 }
 
 // The raised rule of an app of the manifest in place.

@@ -18,8 +18,8 @@ where
     ask_server(rt, OperatorRequest::Show, port).unwrap_or(none)
 }
 
-// The appid in a line `app APPID releases R slots S`, if no app has it.
-fn removed_app<'a>(line: &'a str, apps: &[AppSources]) -> Option<&'a str> {
+/// The appid in a line `app APPID releases R slots S`, if no app has it.
+pub(crate) fn removed_app<'a>(line: &'a str, apps: &[AppSources]) -> Option<&'a str> {
     let Some((named, _counts)) = line.rsplit_once(" releases ") else {
         return None;
     };

@@ -1,7 +1,9 @@
 //! The files of a manifest, of which a step's are as before it, or as after it.
 
-ghost use Rattle.std.specs.Prelude.{◌≡◌, [], IfOk, option_copied};
+ghost use Rattle.std.specs.Prelude.{◌≡◌, [], IfErr, IfOk, option_copied};
+ghost use Rattle.bounded_files.specs.Files.{KnownFiles};
 ghost use Rattle.load.specs.Folder.{files_in_folder};
+ghost use Rattle.load.specs.Load.{IsLoadFault};
 ghost use Rattle.load.specs.Sources.{AreSources};
 ghost use Rattle.stage_commands.specs.Befores.{bytes_then, files_then};
 ghost use Rattle.stage_commands.specs.Befores as specs;
@@ -77,7 +79,8 @@ impl<'a, L: Files> Files for WithReplaced<'a, L> {
 }
 
 /// Gathers a manifest's bytes and the files next to its path, of which a step's are as after it,
-/// or else as before it.
+/// or else as before it. A fault doesn't depend on what the files have.
+#[tactic(auto, using(crate::proofs::Then::of_refusal))]
 pub(crate) fn sources_with<D: Disk>(
     alloc: Global,
     disk: &D,
@@ -86,8 +89,10 @@ pub(crate) fn sources_with<D: Disk>(
     replaced: &[ReplacedFile],
     is_after: bool,
 ) -> Result<Sources, LoadFault>
-    ensures { IfOk result (AreSources (files_then is_after replaced.now
+    ensures sources { IfOk result (AreSources (files_then is_after replaced.now
         (files_in_folder (D.known disk.now) manifest.now)) [] bytes.now) }
+    ensures fault { IfErr result (λ fault.
+        (files : KnownFiles) → IsLoadFault files [] bytes.now fault) }
 {
     let files = FolderFiles::in_folder_of(alloc, disk, manifest);
     let mut files = WithReplaced {

@@ -1,86 +1,28 @@
 //! What changes if a step is undone: the manifest in place, compared with the one before the step;
 //! and which halt that lifts.
 
-ghost use Rattle.std.specs.Prelude.{◌≡◌, IfSome, OnOk, codes, false, option_copied};
-ghost use Rattle.load.specs.Opened.{IsCollected};
+ghost use Rattle.std.specs.Prelude.{◌≡◌, IfSome, OnOk, false, option_copied};
 ghost use Rattle.stage_commands.specs.Backs.{UndoingLiftsNone, lifted_by_undoing};
-ghost use Rattle.stage_commands.specs.Befores.{GivesBefore, WasCollected};
-ghost use Rattle.stage_commands.specs.Befores as specs;
 ghost use Rattle.stage_commands.specs.Compared.{AreAllJudged};
 ghost use Rattle.staging.specs.InForce as in_force;
 
 use crate::collected::judged;
 use crate::comparison::compare;
+use crate::gathered::{collected_before, collected_now};
 use crate::lifting::stop_if_lifted;
 use crate::options::StageCall;
 use crate::outcome::{Lines, Stop};
-use crate::replaced_files::{bytes_of, file_named, sources_with};
 use bounded_files::Disk;
-use load::{CollectedManifest, JudgedManifest, collect_manifest, manifest_bytes};
-use stage_records::{ReplacedFile, StagingStep, StepAction};
+use load::{CollectedManifest, JudgedManifest};
+use stage_records::{StagingStep, StepAction};
 use staging::lifted_halt;
 use std::alloc::Global;
 use std::net::{Net, TcpStream};
 use std::time::Clock;
 
-/// The name of the manifest in place.
-const CURRENT: &str = "current.toml";
-
 /// What is said in place of a comparison.
-const NOT_COMPARED: &str = "stage: a manifest is refused, so what changes isn't compared\n";
-
-// The bytes of the manifest as it was before a step.
-fn bytes_before<D: Disk>(
-    alloc: Global,
-    disk: &D,
-    manifest: &str,
-    restored: &[ReplacedFile],
-) -> Option<Vec<u8>>
-    ensures { IfSome result (λ bytes. GivesBefore (D.known disk.now) manifest.now
-        (specs.file_named restored.now (codes "current.toml")) bytes.items) }
-{
-    match file_named(restored, CURRENT) {
-        Some(file) => match bytes_of(alloc, file, false) {
-            Ok(bytes) => Some(bytes),
-            Err(_) => None,
-        },
-        None => match manifest_bytes(disk, manifest) {
-            Ok(bytes) => Some(bytes),
-            Err(_) => None,
-        },
-    }
-}
-
-// The manifest as it was before a step, if it can be gathered.
-fn collected_before<D: Disk>(
-    alloc: Global,
-    disk: &D,
-    manifest: &str,
-    restored: &[ReplacedFile],
-) -> Option<CollectedManifest>
-    ensures { IfSome result (WasCollected (D.known disk.now) manifest.now restored.now) }
-{
-    let Some(bytes) = bytes_before(alloc, disk, manifest, restored) else {
-        return None;
-    };
-    match sources_with(alloc, disk, manifest, &bytes, restored, false) {
-        Ok(sources) => Some(CollectedManifest { bytes, sources }),
-        Err(_) => {
-            drop(bytes);
-            None
-        }
-    }
-}
-
-// The manifest in place, if it can be gathered.
-fn collected_now<D: Disk>(alloc: Global, disk: &D, manifest: &str) -> Option<CollectedManifest>
-    ensures { IfSome result (IsCollected (D.known disk.now) manifest.now) }
-{
-    match collect_manifest(alloc, disk, manifest) {
-        Ok(collected) => Some(collected),
-        Err(_) => None,
-    }
-}
+pub(crate) const NOT_COMPARED: &str =
+    "stage: a manifest is refused, so what changes isn't compared\n";
 
 // ---- halts
 
@@ -90,7 +32,7 @@ fn app_of_halt(action: &StepAction) -> Option<&str>
 {
     match action {
         StepAction::Halt { appid } => Some(appid.as_str()),
-        StepAction::Raise { .. } | StepAction::Put { .. } => None,
+        StepAction::Raise { .. } | StepAction::Resume { .. } | StepAction::Put { .. } => None,
     }
 }
 
@@ -115,8 +57,11 @@ fn lifted_by_undoing<'a>(
 
 // ---- the comparison
 
-// A manifest, judged, if it can be.
-fn judged_if(alloc: Global, collected: Option<CollectedManifest>) -> Option<JudgedManifest>
+/// A manifest, judged, if it can be.
+pub(crate) fn judged_if(
+    alloc: Global,
+    collected: Option<CollectedManifest>,
+) -> Option<JudgedManifest>
     ensures { IfSome result AreAllJudged }
 {
     let CollectedManifest { bytes, sources } = collected?;
@@ -138,6 +83,7 @@ fn compare_if<R, D>(
 ) -> Result<(), Stop>
 where
     R: AllocGlobal + Clock + Net<Stream = TcpStream>,
+    D: Disk,
 {
     let alloc = call.rt.alloc();
     let Some(old) = judged_if(alloc, present) else {
@@ -169,8 +115,17 @@ where
         (D.known call.now.disk.now) call.now.manifest.now steps.now step.now) }
 {
     let (alloc, disk) = (call.rt.alloc(), call.disk);
-    let present = collected_now(alloc, disk, call.manifest);
-    let before = collected_before(alloc, disk, call.manifest, &step.files);
+    let present = match collected_now(alloc, disk, call.manifest) {
+        Ok(present) => present,
+        Err(stop) => return Err(stop),
+    };
+    let before = match collected_before(alloc, disk, call.manifest, &step.files) {
+        Ok(before) => before,
+        Err(stop) => {
+            drop(present);
+            return Err(stop);
+        }
+    };
     let lifted = lifted_by_undoing(steps, step, &present, &before);
     match stop_if_lifted(alloc, lifted, call.options.anyway, lines) {
         Ok(()) => {

@@ -3,22 +3,25 @@
 // No contract says what is printed: bench/outside tests it.
 
 use crate::collected::digest_text;
-use crate::digest_line::last_digest;
+use crate::drift::push_serves;
 use crate::load_notes::{note_of, read_notes};
 use crate::loads::push_fault;
 use crate::options::StageCall;
 use crate::outcome::Lines;
 use crate::quota_lines::push_quotas;
 use crate::served::{InPlace, Served, are_both};
+use crate::serves::{Serves, Surveyed, server_at};
+use crate::survey::survey;
+use bounded_files::Disk;
 use cell_assignments::read_assignments;
 use load::{AppSources, CollectedManifest, judge_app};
 use operator::{RequestFault, ask_server};
 use operator_request::OperatorRequest;
 use printing::TextBuffer;
 use stage_folder::StageFolder;
+use stage_records::StageAction;
 use std::alloc::{AllocError, Global};
 use std::net::{Net, TcpStream};
-use std::rt::Files;
 
 // The lines by which a server shows the apps of a manifest; None if a load would refuse it.
 fn shown_apps(alloc: Global, apps: &[AppSources]) -> Result<Option<String>, AllocError> {
@@ -43,21 +46,41 @@ fn in_place_of(alloc: Global, collected: &CollectedManifest) -> Result<InPlace, 
     Ok(InPlace { shown, digest })
 }
 
-// Adds the generation of a server, and what is known of what it serves.
+// Adds what a server says that it serves, and which apps it halts. Returns whether that is what is
+// in place.
+fn push_known(text: &mut TextBuffer, server: &Surveyed) -> bool {
+    let is_in_place = matches!(&server.serves, Serves::InPlace);
+    push_serves(text, &server.serves);
+    if !is_in_place {
+        text.push(", not what is in place: load it");
+    }
+    server.push_halted(text);
+    text.push("\n");
+    is_in_place
+}
+
+// Adds the generation of a server, and what it serves, as far as that is known. Returns whether it
+// is what is in place, if that is known.
 fn push_shown(
     text: &mut TextBuffer,
     port: u16,
     reply: &str,
     notes: &str,
     in_place: &InPlace,
-) -> Served {
+    server: Option<&Surveyed>,
+) -> Option<bool> {
     let (generation, shown) = reply.split_once('\n').unwrap_or((reply, ""));
-    let served = Served::of(in_place, generation, shown, note_of(notes, port));
     text.push_number("server at ", port as u64, ": ");
     text.push_printed("", generation, ", ");
+    if let Some(server) = server
+        && !matches!(&server.serves, Serves::Unknown)
+    {
+        return Some(push_known(text, server));
+    }
+    let served = Served::of(in_place, generation, shown, note_of(notes, port));
     text.push(served.words());
     text.push("\n");
-    served
+    served.is_in_place()
 }
 
 // The lines of a server's counters that have a quota.
@@ -81,15 +104,22 @@ where
     Ok(())
 }
 
+// What the status compares each server with.
+#[derive(Clone, Copy)]
+struct Known<'a> {
+    collected: &'a CollectedManifest,
+    notes: &'a str,
+    in_place: &'a InPlace,
+    servers: &'a [Surveyed],
+}
+
 // What a server serves, and its counters.
 fn push_server<R>(
     rt: &R,
     port: u16,
-    collected: &CollectedManifest,
-    notes: &str,
-    in_place: &InPlace,
+    known: &Known<'_>,
     text: &mut TextBuffer,
-) -> Result<Served, RequestFault>
+) -> Result<Option<bool>, RequestFault>
 where
     R: AllocGlobal + Net<Stream = TcpStream>,
 {
@@ -97,29 +127,31 @@ where
         Ok(reply) => reply,
         Err(fault) => return Err(fault),
     };
-    let served = push_shown(text, port, reply.as_str(), notes, in_place);
+    let server = server_at(known.servers, port);
+    let served = push_shown(
+        text,
+        port,
+        reply.as_str(),
+        known.notes,
+        known.in_place,
+        server,
+    );
     drop(reply);
-    match push_counters(rt, port, collected, text) {
+    match push_counters(rt, port, known.collected, text) {
         Ok(()) => Ok(served),
         Err(fault) => Err(fault),
     }
 }
 
 // Adds what each server serves. Returns whether all serve what is in place, if that is known.
-fn push_each<R, D>(
-    call: &StageCall<'_, R, D>,
-    collected: &CollectedManifest,
-    notes: &str,
-    in_place: &InPlace,
-    lines: &mut Lines,
-) -> Option<bool>
+fn push_each<R, D>(call: &StageCall<'_, R, D>, known: &Known<'_>, lines: &mut Lines) -> Option<bool>
 where
     R: AllocGlobal + Net<Stream = TcpStream>,
 {
     let mut all = Some(true);
     for port in call.options.ports() {
-        match push_server(call.rt, *port, collected, notes, in_place, &mut lines.text) {
-            Ok(served) => all = are_both(all, served.is_in_place()),
+        match push_server(call.rt, *port, known, &mut lines.text) {
+            Ok(is_in_place) => all = are_both(all, is_in_place),
             Err(fault) => {
                 push_fault(&mut lines.stderr, *port, fault, call.manifest);
                 all = Some(false);
@@ -127,6 +159,34 @@ where
         }
     }
     all
+}
+
+// The same, once it is known what each server says that it serves.
+fn push_surveyed<R, D>(
+    call: &StageCall<'_, R, D>,
+    collected: &CollectedManifest,
+    notes: &str,
+    servers: &[Surveyed],
+    lines: &mut Lines,
+) -> Option<bool>
+where
+    R: AllocGlobal + Net<Stream = TcpStream>,
+{
+    match in_place_of(call.rt.alloc(), collected) {
+        Ok(in_place) => {
+            let known = Known {
+                collected,
+                notes,
+                in_place: &in_place,
+                servers,
+            };
+            push_each(call, &known, lines)
+        }
+        Err(_) => {
+            lines.stderr.leave_out();
+            None
+        }
+    }
 }
 
 /// Adds what each server serves. Returns whether all serve what is in place, if that is known.
@@ -138,6 +198,7 @@ pub(crate) fn push_servers<R, D, F>(
 ) -> Option<bool>
 where
     R: AllocGlobal + Net<Stream = TcpStream>,
+    D: Disk,
     F: StageFolder,
 {
     if call.options.no_load {
@@ -147,74 +208,11 @@ where
         lines.stderr.leave_out();
         return None;
     };
-    match in_place_of(call.rt.alloc(), collected) {
-        Ok(in_place) => push_each(call, collected, notes.as_str(), &in_place, lines),
+    match survey(call, folder, &StageAction::Status) {
+        Ok(servers) => push_surveyed(call, collected, notes.as_str(), &servers, lines),
         Err(_) => {
             lines.stderr.leave_out();
             None
-        }
-    }
-}
-
-// Adds whether a digest, that of what is in place, is the last one of a log, and returns it.
-fn push_digests(text: &mut TextBuffer, log: &str, in_place: &str, last: Option<&str>) -> bool {
-    let Some(last) = last else {
-        text.push_printed("", log, ": no load yet\n");
-        return false;
-    };
-    let is_same = last == in_place;
-    let end = if is_same {
-        ", what is in place was loaded last\n"
-    } else {
-        ", it wasn't loaded last\n"
-    };
-    text.push_printed("", log, ": digest ");
-    text.push(in_place);
-    text.push(end);
-    is_same
-}
-
-// The same for a manifest.
-fn push_last(
-    alloc: Global,
-    collected: &CollectedManifest,
-    log: &str,
-    last: Option<&str>,
-    text: &mut TextBuffer,
-) -> bool {
-    match digest_text(alloc, collected) {
-        Ok(in_place) => push_digests(text, log, in_place.as_str(), last),
-        Err(_) => {
-            text.leave_out();
-            false
-        }
-    }
-}
-
-/// Adds whether what is in place is what the log's server loaded last, and returns it, if a log is
-/// named. If the log can't be read, it isn't.
-pub(crate) fn push_log<R, D>(
-    call: &StageCall<'_, R, D>,
-    collected: &CollectedManifest,
-    lines: &mut Lines,
-) -> Option<bool>
-where
-    R: Files + AllocGlobal,
-{
-    let Some(log) = call.options.log else {
-        return None;
-    };
-    match last_digest(call.rt, log) {
-        Ok(last) => {
-            let alloc = call.rt.alloc();
-            Some(push_last(alloc, collected, log, last.as_deref(), &mut lines.text))
-        }
-        Err(error) => {
-            let (reason, stderr) = (error.kind(), &mut lines.stderr);
-            stderr.push_printed("stage: ", log, " can't be read (");
-            stderr.push_value(&reason);
-            stderr.push("): name a server's log\n");
-            Some(false)
         }
     }
 }

@@ -1,6 +1,7 @@
-//! Steps as lines.
+//! Steps as lines: what a step did, when, by whom, and why.
 
-// No contract says what they are: bench/outside tests them.
+// No contract says what they are: rows compare them. Names, paths and reasons are printed with
+// their control characters escaped.
 
 use jiff_core::Timestamp;
 use moments::{NamedTime, time_text};
@@ -11,27 +12,63 @@ use std::alloc::{AllocError, Global};
 /// The nanoseconds of a second.
 const NANOSECONDS: i128 = 1_000_000_000;
 
-// A second since 1970 as a time by RFC 3339.
-fn time_of(alloc: Global, second: u64) -> Result<String, AllocError> {
+/// The seconds of a day.
+const DAY: u64 = 86_400;
+
+/// A second since 1970 as a time by RFC 3339.
+pub(crate) fn time_of(alloc: Global, second: u64) -> Result<String, AllocError> {
     match Timestamp::from_nanosecond(second as i128 * NANOSECONDS) {
         Ok(time) => time_text(alloc, NamedTime::At(time), time),
         Err(_) => String::from_str(alloc, "at an unknown time"),
     }
 }
 
-// Adds what a step did.
-fn push_action(text: &mut TextBuffer, action: &StepAction) {
-    match action {
-        StepAction::Halt { appid } => text.push_printed(": halt ", appid.as_str(), "\n"),
-        StepAction::Raise { appid, buckets } => {
-            text.push_printed(": raise ", appid.as_str(), "");
-            text.push_number(" ", *buckets as u64, "\n");
-        }
-        StepAction::Put { manifest } => text.push_printed(": put ", manifest.as_str(), "\n"),
+// The hour and minute of a time of today, or else the date.
+fn short_time(time: &str, is_today: bool) -> &str {
+    let short = if is_today {
+        time.get(11..16)
+    } else {
+        time.get(0..10)
+    };
+    short.unwrap_or(time)
+}
+
+/// Adds who took a step, if that is known.
+pub(crate) fn push_user(text: &mut TextBuffer, step: &StagingStep) {
+    if let Some(user) = &step.user {
+        text.push_printed(" by ", user.as_str(), "");
     }
 }
 
-/// Adds a line of a step: a word, its number, its time, and what it did.
+/// Adds since when a step is in force, and by whom. Times are in UTC.
+pub(crate) fn push_since(alloc: Global, text: &mut TextBuffer, step: &StagingStep, now: u64) {
+    text.push("since ");
+    match time_of(alloc, step.time) {
+        Ok(time) => text.push(short_time(time.as_str(), step.time / DAY == now / DAY)),
+        Err(_) => text.leave_out(),
+    }
+    push_user(text, step);
+}
+
+// Adds what a step did.
+fn push_action(text: &mut TextBuffer, action: &StepAction) {
+    match action {
+        StepAction::Halt { appid } => text.push_printed(": halt ", appid.as_str(), ""),
+        StepAction::Raise { appid, buckets } => {
+            text.push_printed(": raise ", appid.as_str(), "");
+            text.push_number(" ", *buckets as u64, "");
+        }
+        StepAction::Resume { appid, buckets } => {
+            text.push_printed(": resume ", appid.as_str(), "");
+            if let Some(buckets) = *buckets {
+                text.push_number(" ", buckets as u64, "");
+            }
+        }
+        StepAction::Put { manifest } => text.push_printed(": put ", manifest.as_str(), ""),
+    }
+}
+
+/// Adds a line of a step: a word, its number, its time, who took it, what it did, and why.
 pub(crate) fn push_step(alloc: Global, text: &mut TextBuffer, word: &str, step: &StagingStep) {
     text.push(word);
     text.push_number(" step ", step.number as u64, " of ");
@@ -39,5 +76,10 @@ pub(crate) fn push_step(alloc: Global, text: &mut TextBuffer, word: &str, step: 
         Ok(time) => text.push(time.as_str()),
         Err(_) => text.leave_out(),
     }
+    push_user(text, step);
     push_action(text, &step.action);
+    if let Some(because) = &step.because {
+        text.push_printed(" (", because.as_str(), ")");
+    }
+    text.push("\n");
 }

@@ -21,6 +21,14 @@ pub(crate) fn owned_text(alloc: Global, text: &str) -> Result<Text, AllocError>
     Ok(Text::new(String::from_str(alloc, text)?))
 }
 
+/// The same of a text that may be missing.
+pub(crate) fn owned_some(alloc: Global, text: Option<&str>) -> Result<Option<Text>, AllocError> {
+    match text {
+        Some(text) => Ok(Some(owned_text(alloc, text)?)),
+        None => Ok(None),
+    }
+}
+
 /// The recorded steps, in the order of their numbers. A record that isn't a step's is a refusal.
 #[tactic(auto, using(crate::proofs::Left::all_read))]
 pub(crate) fn read_steps<F: StageFolder>(alloc: Global, folder: &F) -> Result<RecordedSteps, Stop>

@@ -42,8 +42,16 @@ pub(crate) const TWO_CONTENTS: &str = " would get two contents: give each file o
 /// The rule is the one of a halt.
 pub(crate) const IS_HALTED: &str = " isn't raised: it halts the app: lift that halt first";
 
-// A refusal with this sentence.
-fn refusal(text: TextBuffer) -> Stop {
+/// What follows an appid: no recorded halt is in force.
+pub(crate) const NOT_HALTED: &str = " isn't halted by a step: if a server halts it, call rollout \
+    resume there";
+
+/// What follows the name of a file: a later step replaced it, so the halt isn't its last state.
+pub(crate) const REPLACED_SINCE: &str = " was replaced again since the halt: put the rule that you \
+    want in place";
+
+/// A refusal with this sentence.
+pub(crate) fn refusal(text: TextBuffer) -> Stop {
     match text.finish() {
         Ok(text) => Stop::Refused(text),
         Err(_) => Stop::Memory,
@@ -163,6 +171,17 @@ pub(crate) fn in_folder(alloc: Global, name: &str, fault: FolderFault) -> Stop {
     let mut text = TextBuffer::new(alloc);
     text.push_printed("", name, ": ");
     text.push_value(&fault);
+    refusal(text)
+}
+
+/// Another call is at work in a folder: that of this note, if it isn't empty.
+pub(crate) fn at_work(alloc: Global, folder: &str, holder: &str) -> Stop {
+    let mut text = TextBuffer::new(alloc);
+    text.push_printed("", folder, ": ");
+    text.push_value(&FolderFault::Locked);
+    if !holder.is_empty() {
+        text.push_printed(" (", holder, ")");
+    }
     refusal(text)
 }
 

@@ -1,17 +1,19 @@
 //! Recording a step, and performing it.
 
-ghost use Rattle.std.specs.Prelude.{◌≡◌, [], IfErr, OnErr, OnOk, false, option_map, option_to_list};
-ghost use Rattle.std.specs.Prelude.{true};
+ghost use Rattle.std.specs.Prelude.{◌≡◌, [], IfErr, IfOk, IfSome, OnErr, OnOk, false, option_map};
+ghost use Rattle.std.specs.Prelude.{option_to_list, true};
 ghost use Rattle.stage_commands.specs.Actions.{IsUnchanged};
-ghost use Rattle.stage_commands.specs.Taken.{LeftBy, MayChange, Performs, Takes};
-ghost use Rattle.stage_folder.specs.Recorded.{IsRecorded};
-ghost use Rattle.stage_folder.specs.Steps.{IsPartlyDone, done, has_distinct_names};
+ghost use Rattle.stage_commands.specs.Taken.{IsNext, LeftBy, MayChange, Performs, Takes};
+ghost use Rattle.stage_folder.specs.Folders.{IsFree};
+ghost use Rattle.stage_folder.specs.Recorded.{IsRecorded, MayBeRecorded};
+ghost use Rattle.stage_folder.specs.Steps.{IsFoundBy, IsPartlyDone, done};
+ghost use Rattle.stage_folder.specs.Steps.{has_distinct_names};
 
 use crate::app_file::files_of;
 use crate::comparison::now_of;
 use crate::options::StageCall;
 use crate::outcome::{Lines, Stop};
-use crate::steps::{RECORDS, name_at};
+use crate::steps::{RECORDS, name_at, owned_some};
 use crate::stop_texts::{in_folder, stopped_at};
 use printing::TextBuffer;
 use stage_folder::{StageFolder, StepFault, perform, write_record};
@@ -36,6 +38,8 @@ fn record_step<F: StageFolder>(
     ensures recorded { OnOk result
         (IsRecorded step.now (F.records folder.old) (F.records folder.new)) }
     ensures distinct { OnOk result (has_distinct_names step.now.files ≡ true) }
+    ensures failed { OnErr result
+        (MayBeRecorded step.now (F.records folder.old) (F.records folder.new)) }
     ensures files { F.files folder.new ≡ F.files folder.old }
 {
     match write_record(alloc, folder, step) {
@@ -72,12 +76,13 @@ fn are_none(files: &[ReplacedFile]) -> bool
 }
 
 // Records a step, unless it replaces no file, and performs it.
-#[tactic(auto, using(crate::proofs::Left::unchanged_by, crate::proofs::Left::performs_none))]
+#[tactic(auto, using(crate::proofs::Left::not_recorded, crate::proofs::Left::performs_none))]
 fn perform_step<F: StageFolder>(
     alloc: Global,
     folder: &mut F,
     step: &StagingStep,
 ) -> Result<(), Stop>
+    requires { IsNext (F.records folder.old) (F.files folder.old) step.now }
     ensures done { OnOk result (Performs step.now (F.records folder.old) (F.records folder.new)
         (F.files folder.old) (F.files folder.new)) }
     ensures stopped { IfErr result (λ stop. LeftBy stop (F.records folder.old)
@@ -104,6 +109,7 @@ fn take<F: StageFolder>(
     dry_run: bool,
     lines: &mut Lines,
 ) -> Result<(), Stop>
+    requires { IsNext (F.records folder.old) (F.files folder.old) step.now }
     ensures done { OnOk result (dry_run ≡ false → Performs step.now (F.records folder.old)
         (F.records folder.new) (F.files folder.old) (F.files folder.new)) }
     ensures stopped { IfErr result (λ stop. LeftBy stop (F.records folder.old)
@@ -130,9 +136,35 @@ fn take<F: StageFolder>(
     }
 }
 
-/// Records and performs a step of this number that replaces these files. It does nothing for
-/// `--dry-run`, and records none that replaces no file.
-#[tactic(auto, using(crate::proofs::Left::takes_by))]
+// A step that is taken now, by the user of the options, for the reason that they give.
+fn new_step<R: AllocGlobal + Clock, D>(
+    call: &StageCall<'_, R, D>,
+    number: u32,
+    action: StepAction,
+    files: Vec<ReplacedFile>,
+) -> Result<StagingStep, Stop>
+    ensures number { IfOk result (λ step. step.number ≡ number) }
+    ensures action { IfOk result (λ step. step.action ≡ action) }
+    ensures files { IfOk result (λ step. step.files ≡ files.items) }
+    ensures not_undone { IfOk result (λ step. step.is_undone ≡ false) }
+{
+    let alloc = call.rt.alloc();
+    let user = owned_some(alloc, call.options.user)?;
+    let because = owned_some(alloc, call.options.because)?;
+    Ok(StagingStep {
+        number,
+        time: now_of(call.rt),
+        user,
+        because,
+        action,
+        files,
+        is_undone: false,
+    })
+}
+
+/// Records and performs a step of this new number that replaces these files, which have the bytes
+/// of the folder. It does nothing for `--dry-run`, and records none that replaces no file.
+#[tactic(auto, using(crate::proofs::Left::takes_by, crate::proofs::Left::unchanged_by))]
 pub(crate) fn take_step<R, D, F>(
     call: &StageCall<'_, R, D>,
     folder: &mut F,
@@ -144,6 +176,8 @@ pub(crate) fn take_step<R, D, F>(
 where
     R: AllocGlobal + Clock,
     F: StageFolder,
+    requires free { IsFree (F.records folder.old) number }
+    requires found { IfSome (F.files folder.old) (IsFoundBy files.items) }
     ensures done { OnOk result (call.now.options.now.dry_run ≡ false → Takes number action
         files.items (F.records folder.old) (F.records folder.new) (F.files folder.old)
         (F.files folder.new)) }
@@ -152,12 +186,9 @@ where
     ensures unchanged { call.now.options.now.dry_run ≡ true → IsUnchanged (F.records folder.old)
         (F.records folder.new) (F.files folder.old) (F.files folder.new) }
 {
-    let step = StagingStep {
-        number,
-        time: now_of(call.rt),
-        action,
-        files,
-        is_undone: false,
+    let step = match new_step(call, number, action, files) {
+        Ok(step) => step,
+        Err(stop) => return Err(stop),
     };
     let taken = take(call.rt.alloc(), folder, &step, call.options.dry_run, lines);
     drop(step);
@@ -180,6 +211,8 @@ pub(crate) fn take_file<R, D, F>(
 where
     R: AllocGlobal + Clock,
     F: StageFolder,
+    requires free { IsFree (F.records folder.old) number }
+    requires found { IfSome (F.files folder.old) (IsFoundBy (option_to_list file)) }
     ensures done { OnOk result (call.now.options.now.dry_run ≡ false → Takes number action
         (option_to_list file) (F.records folder.old) (F.records folder.new) (F.files folder.old)
         (F.files folder.new)) }

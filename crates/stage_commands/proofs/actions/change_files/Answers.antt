@@ -13,5 +13,11 @@ returns-in-Back-clause-done g c = rw c.in-Back.is c.go_back.ensures.done
 pub returns-in-Put-clause-done : goal.returns-in-Put-clause-done
 returns-in-Put-clause-done g c = rw c.in-Put.is c.put.ensures.done
 
+pub returns-in-Resume-clause-done : goal.returns-in-Resume-clause-done
+returns-in-Resume-clause-done g c = rw c.in-Resume.is c.resume.ensures.done
+
 pub returns-in-Status-clause-done : goal.returns-in-Status-clause-done
 returns-in-Status-clause-done g c = rw c.in-Status.is (λ dry. (refl, refl))
+
+pub returns-in-History-clause-done : goal.returns-in-History-clause-done
+returns-in-History-clause-done g c = rw c.in-History.is (λ dry. (refl, refl))

@@ -5,4 +5,5 @@ use Rattle.stage_commands.proofs.backs.undo_unless_dry.Goals as goal
 
 pub returns-then-not-are_complete-clause-stopped :
     goal.returns-then-not-are_complete-clause-stopped
-returns-then-not-are_complete-clause-stopped g c = unchanged_undo stop.Memory _ _ _ refl
+returns-then-not-are_complete-clause-stopped g c =
+    unchanged_undo stop.Memory c.args.step.now _ _ _ _ refl refl

@@ -1,3 +1,4 @@
+use Rattle.stage_commands.proofs.Put.{found_changes}
 use Rattle.stage_commands.proofs.Replacing.{has_put}
 use Rattle.stage_commands.proofs.puts.put.Goals as goal
 
@@ -7,3 +8,10 @@ returns-in-Ok-take_step-clause-done g c = λ wet.
     (record { left = c.steps_leave.ensures.left; changes = c.steps_leave.ensures.changes })
     _ _ _ _ _ _ _ _ _ (rw c.in-Ok.field-0-is at c.in-Ok.ensures)
     (c.in-Ok-take_step.ensures.done wet)
+
+pub take_step-requires-clause-free : goal.take_step-requires-clause-free
+take_step-requires-clause-free g c = (rw c.in-Ok.field-0-is at c.in-Ok.ensures).number_is
+
+pub take_step-requires-clause-found : goal.take_step-requires-clause-found
+take_step-requires-clause-found g c =
+    found_changes _ _ _ _ (rw c.in-Ok.field-0-is at c.in-Ok.ensures).files.changes

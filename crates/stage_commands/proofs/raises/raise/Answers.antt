@@ -1,0 +1,5 @@
+use Rattle.stage_commands.proofs.Replacing.{raise_found}
+use Rattle.stage_commands.proofs.raises.raise.Goals as goal
+
+pub take_file-requires-clause-found : goal.take_file-requires-clause-found
+take_file-requires-clause-found g c = raise_found _ _ _ _ _ c.in-Ok-planned_file.file c.in-Ok-planned_file.ensures

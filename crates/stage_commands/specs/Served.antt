@@ -1,0 +1,13 @@
+-- What servers serve.
+use Rattle.std.specs.Prelude.{◌≡◌, ℕ, List, Bool, Option, Some, None}
+use Rattle.load.specs.Digest.{digest_of}
+use Rattle.load.specs.declared.opened.CollectedManifest.{CollectedManifest}
+
+-- a manifest and its apps' files have this digest, by which a server names what it was loaded with
+abbrev pub HasDigest : (digest : List ℕ) → CollectedManifest → Type 0
+HasDigest digest c = digest_of c.bytes.items c.sources.apps.items ≡ Some digest
+
+-- what the servers serve is known, by what they say, or by a log
+abbrev pub IsKnown : (servers log : Option Bool) → Type 0
+IsKnown None None = ⊥
+IsKnown servers log = Unit {0}

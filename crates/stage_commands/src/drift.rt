@@ -1,0 +1,250 @@
+//! Servers that don't serve what is in place: when an action stops, and when a halt doesn't load.
+
+// No contract says what is printed: bench/outside tests it.
+
+use crate::collected::app_named;
+use crate::options::StageCall;
+use crate::outcome::{Lines, Stop};
+use crate::serves::{Serves, Surveyed};
+use crate::stop_texts::refusal;
+use load::AppSources;
+use printing::TextBuffer;
+use stage_folder::StageFolder;
+use stage_records::{ReplacedFile, StageAction};
+use std::alloc::Global;
+
+// The name of the first of these files that the folder has with other bytes.
+fn edited_name<'a, F: StageFolder>(folder: &F, files: &'a [ReplacedFile]) -> Option<&'a str> {
+    for file in files {
+        if !is_same(folder, file) {
+            return Some(file.name.as_str());
+        }
+    }
+    None
+}
+
+// ---- the words
+
+/// Adds what a server serves, if that isn't what is in place.
+pub(crate) fn push_serves(text: &mut TextBuffer, serves: &Serves) {
+    match serves {
+        Serves::Step { number: 0, .. } => text.push("what was there before the first step"),
+        Serves::Step { number, .. } => text.push_number("step ", *number as u64, ""),
+        Serves::Undone => text.push("a step that is undone"),
+        Serves::Other { loaded, .. } => {
+            text.push_printed("what no step left, loaded ", loaded.as_str(), "")
+        }
+        Serves::InPlace | Serves::Unknown => text.push("what is in place"),
+    }
+}
+
+// A server doesn't serve what is in place.
+fn drifted(alloc: Global, server: &Surveyed, manifest: &str) -> Stop {
+    let mut text = TextBuffer::new(alloc);
+    text.push_number("server at ", server.port as u64, " serves ");
+    push_serves(&mut text, &server.serves);
+    text.push_printed(", not what is in place: rollout load ", manifest, "");
+    text.push_number(
+        " --operator ",
+        server.port as u64,
+        " mends it (--anyway continues)",
+    );
+    refusal(text)
+}
+
+// A file isn't as the last step left it, which a server serves.
+fn edited(alloc: Global, port: u16, number: u32, name: &str) -> Stop {
+    let mut text = TextBuffer::new(alloc);
+    text.push_printed("", name, " was edited since step ");
+    text.push_number("", number as u64, "");
+    text.push_number(", which the server at ", port as u64, " serves: ");
+    text.push("restore it, or put its manifest in place (--anyway continues)");
+    refusal(text)
+}
+
+// A server has an app that is neither in place nor in the next manifest.
+fn another(alloc: Global, port: u16, appid: &str, loaded: &str) -> Stop {
+    let mut text = TextBuffer::new(alloc);
+    text.push_number("server at ", port as u64, " is another one: it serves ");
+    text.push_printed("", appid, ", loaded ");
+    text.push_printed("", loaded, " (--other-server continues)");
+    refusal(text)
+}
+
+// ---- stops
+
+/// The app that only this server has, which is another one then.
+pub(crate) fn strange_app(server: &Surveyed) -> Option<&str> {
+    match &server.serves {
+        Serves::Other {
+            strange: Some(appid),
+            ..
+        } => Some(appid.as_str()),
+        _ => None,
+    }
+}
+
+// Why an action stops because of a server.
+fn stop_of<F: StageFolder>(
+    alloc: Global,
+    folder: &F,
+    server: &Surveyed,
+    manifest: &str,
+    action: &StageAction<'_>,
+) -> Option<Stop> {
+    match (&server.serves, *action) {
+        (Serves::InPlace | Serves::Unknown, _) => None,
+        (Serves::Step { later: 0, .. }, StageAction::Put { .. }) => None,
+        (Serves::Step { later: 1, .. }, StageAction::Back) => None,
+        (
+            Serves::Step {
+                number,
+                later: 0,
+                files,
+                ..
+            },
+            _,
+        ) => {
+            let name = edited_name(folder, files)?;
+            Some(edited(alloc, server.port, *number, name))
+        }
+        _ => Some(drifted(alloc, server, manifest)),
+    }
+}
+
+// Stops because of one server.
+fn stop_at<R, D, F>(
+    call: &StageCall<'_, R, D>,
+    folder: &F,
+    server: &Surveyed,
+    action: &StageAction<'_>,
+    lines: &mut Lines,
+) -> Result<(), Stop>
+where
+    R: AllocGlobal,
+    F: StageFolder,
+{
+    let alloc = call.rt.alloc();
+    if let Serves::Other {
+        strange: Some(appid),
+        loaded,
+    } = &server.serves
+    {
+        let stop = another(alloc, server.port, appid.as_str(), loaded.as_str());
+        return lines.go_on_if(call.options.other_server, stop);
+    }
+    match stop_of(alloc, folder, server, call.manifest, action) {
+        Some(stop) => lines.go_on_if(call.options.anyway, stop),
+        None => Ok(()),
+    }
+}
+
+/// Stops before anything is changed, if a server doesn't serve what is in place: unless `--anyway`
+/// is given, or `--other-server` if it has another app. A halt doesn't stop. A put continues after
+/// an edit of the files in place, since its rows begin with what is served. So does undoing a step
+/// that the server doesn't serve yet, as one that stopped in its middle.
+pub(crate) fn stop_if_drifted<R, D, F>(
+    call: &StageCall<'_, R, D>,
+    folder: &F,
+    servers: &[Surveyed],
+    action: &StageAction<'_>,
+    lines: &mut Lines,
+) -> Result<(), Stop>
+where
+    R: AllocGlobal,
+    F: StageFolder,
+{
+    if let StageAction::Halt { .. } = *action {
+        return Ok(());
+    }
+    for server in servers {
+        stop_at(call, folder, server, action, lines)?;
+    }
+    Ok(())
+}
+
+// ---- a halt's loads
+
+// Whether a file of a folder has the bytes that a step left.
+fn is_same<F: StageFolder>(folder: &F, file: &ReplacedFile) -> bool {
+    match folder.read(file.name.as_str()) {
+        Ok(Some(bytes)) => bytes.as_slice() == file.after.as_slice(),
+        _ => false,
+    }
+}
+
+// Whether loading what is in place changes more at a server than this one file.
+fn changes_more<F: StageFolder>(folder: &F, serves: &Serves, own: &str) -> bool {
+    match serves {
+        Serves::Step { files, .. } => {
+            for file in files {
+                if file.name.as_str() != own && !is_same(folder, file) {
+                    return true;
+                }
+            }
+            false
+        }
+        Serves::Undone | Serves::Other { .. } => true,
+        Serves::InPlace | Serves::Unknown => false,
+    }
+}
+
+// Adds that a server is another one.
+fn push_another(stderr: &mut TextBuffer, port: u16, appid: &str) {
+    stderr.push_number(
+        "server at ",
+        port as u64,
+        ": not loaded, it is another one: ",
+    );
+    stderr.push_printed("it serves ", appid, " (--other-server loads it)\n");
+}
+
+// Adds that a server isn't loaded by a halt, and whether it has halted the app.
+fn push_spared(stderr: &mut TextBuffer, server: &Surveyed, appid: &str, manifest: &str) {
+    stderr.push_number("server at ", server.port as u64, ": not loaded, it serves ");
+    push_serves(stderr, &server.serves);
+    if !server.halts(appid) {
+        stderr.push_printed("; ", appid, " isn't halted there (--anyway loads it)\n");
+        return;
+    }
+    stderr.push_printed(
+        "; ",
+        appid,
+        " is halted there, until a restart loads the files: ",
+    );
+    stderr.push_printed("call rollout check ", manifest, "\n");
+}
+
+/// Whether a server is left without a load of these apps, with a line that says why: another
+/// server, unless `--other-server` is given; and at a halt one at which loading would change more
+/// than that, unless `--anyway` is given.
+pub(crate) fn is_spared<R, D, F>(
+    call: &StageCall<'_, R, D>,
+    folder: &F,
+    server: &Surveyed,
+    action: &StageAction<'_>,
+    apps: &[AppSources],
+    lines: &mut Lines,
+) -> bool
+where
+    F: StageFolder,
+{
+    if let Some(appid) = strange_app(server) {
+        if !call.options.other_server {
+            push_another(&mut lines.stderr, server.port, appid);
+        }
+        return !call.options.other_server;
+    }
+    let StageAction::Halt { appid } = *action else {
+        return false;
+    };
+    let own = match app_named(apps, appid) {
+        Some(app) => app.entry.source().file(),
+        None => "",
+    };
+    let is_spared = !call.options.anyway && changes_more(folder, &server.serves, own);
+    if is_spared {
+        push_spared(&mut lines.stderr, server, appid, call.manifest);
+    }
+    is_spared
+}

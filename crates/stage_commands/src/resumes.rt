@@ -1,0 +1,244 @@
+//! `stage resume`: the app's file gets what it had before its last halt, or that rule with another
+//! number in its threshold.
+
+ghost use Rattle.std.specs.Prelude.{◌≡◌, IfErr, IfOk, OnOk, false, true};
+ghost use Rattle.bounded_files.specs.Files.{KnownFiles};
+ghost use Rattle.load.specs.Opened.{IsCollected};
+ghost use Rattle.stage_commands.specs.Actions.{IsUnchanged};
+ghost use Rattle.stage_commands.specs.Resumes.{HasResumed, PlansResume};
+ghost use Rattle.stage_commands.specs.Taken.{LeftBy};
+ghost use Rattle.staging.specs.InForce as in_force;
+
+use crate::app_file::{app_to_change, replaced_file};
+use crate::collected::collected_at;
+use crate::comparison::push_comparison;
+use crate::next_rows::compare_with;
+use crate::options::StageCall;
+use crate::outcome::{Lines, Stop};
+use crate::replaced_files::file_named;
+use crate::restored::NOT_COMPARED;
+use crate::resumed_file::resumed_file_of;
+use crate::served_rows::judged_with_files;
+use crate::steps::{number_in, owned_text, read_steps};
+use crate::stop_texts::{NOT_HALTED, refusal_of};
+use crate::taking::take_file;
+use bounded_files::Disk;
+use load::CollectedManifest;
+use manifest_diff::OpenedBoth;
+use stage_folder::StageFolder;
+use stage_records::{ReplacedFile, StagingStep, StepAction};
+use staging::{is_in_force, last_halt};
+use std::alloc::{AllocError, Global};
+use std::net::{Net, TcpStream};
+use std::rt::Files;
+use std::slice;
+use std::time::Clock;
+
+// Refuses an app of which no recorded halt is in force.
+fn stop_unless_halted(
+    alloc: Global,
+    steps: &[StagingStep],
+    collected: &CollectedManifest,
+    appid: &str,
+) -> Result<(), Stop>
+    ensures { OnOk result
+        (in_force.is_in_force steps.now collected.now.sources.apps.items appid.now ≡ true) }
+{
+    if is_in_force(steps, &collected.sources.apps, appid) {
+        return Ok(());
+    }
+    Err(refusal_of(alloc, appid, NOT_HALTED))
+}
+
+// What resumes an app of the manifest in place, if its halt is in force.
+fn file_by<R, D, F>(
+    call: &StageCall<'_, R, D>,
+    folder: &F,
+    collected: &CollectedManifest,
+    steps: &[StagingStep],
+    appid: &str,
+    buckets: Option<u32>,
+    lines: &mut Lines,
+) -> Result<Option<ReplacedFile>, Stop>
+where
+    R: Files + AllocGlobal,
+    F: StageFolder,
+    ensures { IfOk result (λ file. (known : KnownFiles)
+        → IsCollected known call.now.manifest.now collected.now
+        → PlansResume known call.now.manifest.now appid.now buckets (F.files folder.now)
+        steps.now file) }
+{
+    let app = app_to_change(call, &collected.sources.apps, appid, lines)?;
+    stop_unless_halted(call.rt.alloc(), steps, collected, appid)?;
+    let file = resumed_file_of(call.rt.alloc(), folder, steps, app, buckets)?;
+    Ok(file)
+}
+
+// ---- the comparisons
+
+// A file with these bytes.
+fn with_bytes(alloc: Global, name: &str, bytes: &[u8]) -> Result<ReplacedFile, AllocError> {
+    replaced_file(alloc, name, None, bytes)
+}
+
+// Prints what changes from before the halt, if the rule then has another number.
+#[tactic(auto, using(crate::proofs::Opening::both_kept))]
+fn compare_before<R, D>(
+    call: &StageCall<'_, R, D>,
+    was: &[u8],
+    file: &ReplacedFile,
+    lines: &mut Lines,
+) -> Result<(), Stop>
+where
+    R: AllocGlobal + Clock + Net<Stream = TcpStream>,
+    D: Disk,
+{
+    let Ok(before) = with_bytes(call.rt.alloc(), file.name.as_str(), was) else {
+        return Err(Stop::Memory);
+    };
+    let old = judged_with_files(call, slice::from_ref(&before));
+    drop(before);
+    let Some(old) = old else {
+        lines.stderr.push(NOT_COMPARED);
+        return Ok(());
+    };
+    let Some(new) = judged_with_files(call, slice::from_ref(file)) else {
+        drop(old);
+        lines.stderr.push(NOT_COMPARED);
+        return Ok(());
+    };
+    lines.text.push("from before the halt:\n");
+    let both = OpenedBoth { old, new };
+    let loses = push_comparison(call, &both, lines);
+    drop(both);
+    match loses {
+        Ok(_) => Ok(()),
+        Err(stop) => Err(stop),
+    }
+}
+
+// Prints what changes from what is in place, and from before the halt.
+fn compare_resumed<R, D>(
+    call: &StageCall<'_, R, D>,
+    collected: CollectedManifest,
+    was: Option<&[u8]>,
+    file: &ReplacedFile,
+    lines: &mut Lines,
+) -> Result<(), Stop>
+where
+    R: AllocGlobal + Clock + Net<Stream = TcpStream>,
+    D: Disk,
+{
+    match compare_with(call, collected, file, lines) {
+        Ok(()) => match was {
+            Some(was) => compare_before(call, was, file, lines),
+            None => Ok(()),
+        },
+        Err(stop) => Err(stop),
+    }
+}
+
+// The bytes before the halt of a file, if they are to be compared.
+fn compared_bytes<'a>(
+    steps: &'a [StagingStep],
+    appid: &str,
+    name: &str,
+    buckets: Option<u32>,
+) -> Option<&'a [u8]> {
+    let _number = buckets?;
+    let step = last_halt(steps, appid)?;
+    file_named(&step.files, name)?.before.as_deref()
+}
+
+// The file that resumes the app, once it is compared.
+fn planned_file<R, D, F>(
+    call: &StageCall<'_, R, D>,
+    folder: &F,
+    steps: &[StagingStep],
+    appid: &str,
+    buckets: Option<u32>,
+    lines: &mut Lines,
+) -> Result<Option<ReplacedFile>, Stop>
+where
+    R: Files + AllocGlobal + Clock + Net<Stream = TcpStream>,
+    D: Disk,
+    F: StageFolder,
+    ensures { IfOk result (PlansResume (D.known call.now.disk.now) call.now.manifest.now
+        appid.now buckets (F.files folder.now) steps.now) }
+{
+    let collected = match collected_at(call.rt.alloc(), call.disk, call.manifest) {
+        Ok(collected) => collected,
+        Err(stop) => return Err(stop),
+    };
+    let file = file_by(call, folder, &collected, steps, appid, buckets, lines);
+    let compared = match &file {
+        Ok(Some(file)) => {
+            let was = compared_bytes(steps, appid, file.name.as_str(), buckets);
+            compare_resumed(call, collected, was, file, lines)
+        }
+        _ => {
+            drop(collected);
+            Ok(())
+        }
+    };
+    match compared {
+        Ok(()) => Ok(file?),
+        Err(stop) => {
+            drop(file);
+            Err(stop)
+        }
+    }
+}
+
+/// Gives the app's file what it had before its last halt, which is in force; if a number is given,
+/// the rule then has this number in its threshold. The next manifest is judged and compared first.
+#[tactic(auto, using(crate::proofs::Replacing::resumed, crate::proofs::Left::unchanged_by))]
+pub(crate) fn resume<R, D, F>(
+    call: &StageCall<'_, R, D>,
+    folder: &mut F,
+    appid: &str,
+    buckets: Option<u32>,
+    lines: &mut Lines,
+) -> Result<(), Stop>
+where
+    R: Files + AllocGlobal + Clock + Net<Stream = TcpStream>,
+    D: Disk,
+    F: StageFolder,
+    ensures done { OnOk result (call.now.options.now.dry_run ≡ false
+        → HasResumed (D.known call.now.disk.now) call.now.manifest.now appid.now buckets
+        (F.records folder.old) (F.records folder.new) (F.files folder.old)
+        (F.files folder.new)) }
+    ensures stopped { IfErr result (λ stop. LeftBy stop (F.records folder.old)
+        (F.records folder.new) (F.files folder.old) (F.files folder.new)) }
+    ensures unchanged { call.now.options.now.dry_run ≡ true → IsUnchanged (F.records folder.old)
+        (F.records folder.new) (F.files folder.old) (F.files folder.new) }
+{
+    let alloc = call.rt.alloc();
+    let recorded = match read_steps(alloc, folder) {
+        Ok(recorded) => recorded,
+        Err(stop) => return Err(stop),
+    };
+    let number = match number_in(alloc, folder) {
+        Ok(number) => number,
+        Err(stop) => {
+            drop(recorded);
+            return Err(stop);
+        }
+    };
+    let planned = planned_file(call, folder, &recorded.steps, appid, buckets, lines);
+    drop(recorded);
+    let file = match planned {
+        Ok(file) => file,
+        Err(stop) => return Err(stop),
+    };
+    match owned_text(alloc, appid) {
+        Ok(appid) => {
+            let action = StepAction::Resume { appid, buckets };
+            take_file(call, folder, number, action, file, lines)
+        }
+        Err(_) => {
+            drop(file);
+            Err(Stop::Memory)
+        }
+    }
+}

@@ -1,0 +1,223 @@
+//! What the servers of a folder serve, before anything is changed: which step's files, by the
+//! digest that each server names.
+
+// No contract says what a server serves, or what is printed: bench/outside tests it.
+
+use crate::collected::app_named;
+use crate::load_notes::{note_of, read_notes};
+use crate::options::StageCall;
+use crate::removed_apps::{apps_shown, removed_app};
+use crate::server_state::{ServerState, digest_bytes, halted_in, state_in};
+use crate::serves::{Serves, Surveyed, step_with};
+use bounded_files::Disk;
+use load::{AppSources, CollectedManifest, collect_manifest, digest_of};
+use operator::ask_server;
+use operator_request::OperatorRequest;
+use stage_folder::{RecordedSteps, StageFolder, recorded_steps};
+use stage_records::{StageAction, StagingStep};
+use std::alloc::{AllocError, Global};
+use std::net::{Net, TcpStream};
+
+// What a folder has, for a comparison with what servers serve.
+#[derive(Drop)]
+struct Place {
+    recorded: Option<RecordedSteps>,
+    notes: String,
+    present: Option<CollectedManifest>,
+    next: Option<CollectedManifest>,
+}
+
+impl Place {
+    fn steps(&self) -> &[StagingStep] {
+        match &self.recorded {
+            Some(recorded) => recorded.steps.as_slice(),
+            None => &[],
+        }
+    }
+
+    fn digest(&self) -> Option<[u8; 32]> {
+        let present = self.present.as_ref()?;
+        digest_of(&present.bytes, &present.sources.apps)
+    }
+}
+
+fn apps_of(collected: &Option<CollectedManifest>) -> &[AppSources] {
+    match collected {
+        Some(collected) => collected.sources.apps.as_slice(),
+        None => &[],
+    }
+}
+
+// The manifest that an action is to put in place, if it can be gathered.
+fn next_manifest<R, D>(
+    call: &StageCall<'_, R, D>,
+    action: &StageAction<'_>,
+) -> Option<CollectedManifest>
+where
+    R: AllocGlobal,
+    D: Disk,
+{
+    match *action {
+        StageAction::Put { manifest } => {
+            collect_manifest(call.rt.alloc(), call.disk, manifest).ok()
+        }
+        _ => None,
+    }
+}
+
+fn place_of<R, D, F>(
+    call: &StageCall<'_, R, D>,
+    folder: &F,
+    action: &StageAction<'_>,
+) -> Result<Place, AllocError>
+where
+    R: AllocGlobal,
+    D: Disk,
+    F: StageFolder,
+{
+    let alloc = call.rt.alloc();
+    let Ok(notes) = read_notes(alloc, folder) else {
+        return Err(AllocError);
+    };
+    let recorded = recorded_steps(alloc, folder).ok();
+    let present = collect_manifest(alloc, call.disk, call.manifest).ok();
+    let next = next_manifest(call, action);
+    Ok(Place {
+        recorded,
+        notes,
+        present,
+        next,
+    })
+}
+
+// An app that a server shows, and that isn't in place or in the next manifest.
+fn strange_app(alloc: Global, shown: &str, place: &Place) -> Result<Option<String>, AllocError> {
+    for line in shown.lines() {
+        if let Some(appid) = removed_app(line, apps_of(&place.present))
+            && app_named(apps_of(&place.next), appid).is_none()
+        {
+            return Ok(Some(String::from_str(alloc, appid)?));
+        }
+    }
+    Ok(None)
+}
+
+// What a server serves that no step left so.
+fn served_else<R>(
+    rt: &R,
+    port: u16,
+    place: &Place,
+    state: ServerState<'_>,
+) -> Result<Serves, AllocError>
+where
+    R: AllocGlobal + Net<Stream = TcpStream>,
+{
+    let alloc = rt.alloc();
+    if let Some(note) = note_of(place.notes.as_str(), port)
+        && note.digest == state.digest
+    {
+        return Ok(Serves::Undone);
+    }
+    let shown = apps_shown(rt, port);
+    let strange = strange_app(alloc, shown.as_str(), place)?;
+    match String::from_str(alloc, state.loaded) {
+        Ok(loaded) => Ok(Serves::Other { loaded, strange }),
+        Err(_) => {
+            drop(strange);
+            Err(AllocError)
+        }
+    }
+}
+
+// What a server with this state serves.
+fn served_by<R, D>(
+    call: &StageCall<'_, R, D>,
+    port: u16,
+    place: &Place,
+    state: ServerState<'_>,
+) -> Result<Serves, AllocError>
+where
+    R: AllocGlobal + Net<Stream = TcpStream>,
+    D: Disk,
+{
+    let Some(digest) = digest_bytes(state.digest) else {
+        return Ok(Serves::Unknown);
+    };
+    if place.digest() == Some(digest) {
+        return Ok(Serves::InPlace);
+    }
+    match step_with(call, place.steps(), digest)? {
+        Some(found) => Ok(found),
+        None => served_else(call.rt, port, place, state),
+    }
+}
+
+fn surveyed_at<R, D>(
+    call: &StageCall<'_, R, D>,
+    port: u16,
+    place: &Place,
+) -> Result<Surveyed, AllocError>
+where
+    R: AllocGlobal + Net<Stream = TcpStream>,
+    D: Disk,
+{
+    let alloc = call.rt.alloc();
+    let Ok(reply) = ask_server(call.rt, OperatorRequest::State, port) else {
+        return Ok(Surveyed {
+            port,
+            serves: Serves::Unknown,
+            halted: Vec::new(alloc),
+        });
+    };
+    let serves = match state_in(reply.as_str()) {
+        Some(state) => served_by(call, port, place, state)?,
+        None => Serves::Unknown,
+    };
+    match halted_in(alloc, reply.as_str()) {
+        Ok(halted) => Ok(Surveyed {
+            port,
+            serves,
+            halted,
+        }),
+        Err(_) => {
+            drop(serves);
+            Err(AllocError)
+        }
+    }
+}
+
+fn survey_each<R, D>(call: &StageCall<'_, R, D>, place: &Place) -> Result<Vec<Surveyed>, AllocError>
+where
+    R: AllocGlobal + Net<Stream = TcpStream>,
+    D: Disk,
+{
+    let mut servers = Vec::new(call.rt.alloc());
+    for port in call.options.ports() {
+        servers.push(surveyed_at(call, *port, place)?)?;
+    }
+    Ok(servers)
+}
+
+/// What each server serves, before this action; none if no server is to load.
+pub(crate) fn survey<R, D, F>(
+    call: &StageCall<'_, R, D>,
+    folder: &F,
+    action: &StageAction<'_>,
+) -> Result<Vec<Surveyed>, AllocError>
+where
+    R: AllocGlobal + Net<Stream = TcpStream>,
+    D: Disk,
+    F: StageFolder,
+{
+    if call.options.no_load {
+        return Ok(Vec::new(call.rt.alloc()));
+    }
+    match place_of(call, folder, action) {
+        Ok(place) => {
+            let servers = survey_each(call, &place);
+            drop(place);
+            servers
+        }
+        Err(_) => Err(AllocError),
+    }
+}
