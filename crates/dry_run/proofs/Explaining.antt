@@ -5,7 +5,7 @@ use Rattle.std.proofs.Common.{cond, ◌≤◌}
 use Rattle.std.proofs.lemmas.List.{take_all, take_more}
 use Rattle.std.proofs.lemmas.List.Elements.{All-head, All-tail}
 use Rattle.std.proofs.lemmas.Option.{same_Some}
-use Rattle.std.specs.Prelude.{ℤ, IsTrue, option_map, Result, Ok, Err, IfOk}
+use Rattle.std.specs.Prelude.{ℤ, IfSome, IsTrue, option_map, Result, Ok, Err, IfOk}
 use Rattle.std.specs.Str.{bytes_eq}
 use Rattle.attrs.specs.Attributes.{Attributes}
 use Rattle.attrs.specs.Facts.{attributes_of}
@@ -39,6 +39,11 @@ is_meant (app ∷ apps) appid known each found =
     (All-head IsMeantApp app apps each)
     (λ behind. is_meant apps appid known (All-tail IsMeantApp app apps each) (sym behind))
     (sym found)
+
+pub named_meant : (apps : List JudgedApp) (appid : List ℕ) (found : Option JudgedApp)
+    → All IsMeantApp apps → found ≡ app_named apps appid → IfSome found IsMeantApp
+named_meant apps appid None each is = tt
+named_meant apps appid (Some known) each is = is_meant apps appid known each is
 
 -- the ruleset's app is that of the app that is found
 rule_if : (b : Bool) (app : JudgedApp) (more : Option JudgedApp) (rest : Option AppRule)
@@ -88,26 +93,26 @@ module _ (manifest : JudgedManifest) (facts : RequestFacts) (moment : ℤ) where
         (ap (λ (x : AppFacts). x.updatecheck) (sym same) ∙ asks),
   )
 
-  pub run_explained : (app stated : AppFacts) (appid old new text : List ℕ)
+  pub run_explained : (app stated : AppFacts) (appid old new text : List ℕ) (choice : ℕ)
       (known : JudgedApp) (a : Attributes) → appid ≡ app.appid → stated ≡ app
       → a ≡ attributes_of stated facts moment → stated.updatecheck ≡ true
       → Some known ≡ app_named manifest.apps.items appid → IsMeantApp known
-      → IsTrue (is_appid known.sources.entry.appid) → RunIsExplained known a old new text
+      → IsTrue (is_appid known.sources.entry.appid) → RunIsExplained known a old choice new text
       → ExplainsOne manifest facts moment app old new text
-  run_explained app stated appid old new text known a named same made asks found meant valid
+  run_explained app stated appid old new text choice known a named same made asks found meant valid
       run =
       let of = made ∙ ap (λ (x : AppFacts). attributes_of x facts moment) same in
       let requested = ap (λ (x : AppFacts). x.updatecheck) (sym same) ∙ asks in
       let known_as = ap (app_named manifest.apps.items) (sym named) ∙ sym found in
       let course = subst (λ (b : Attributes). ExplainsCourse known.program known.rule b old
-      run.choice new run.course) of run.course_is in (
-        Some run.choice,
+      choice new run.course) of run.course_is in (
+        Some choice,
         was_run (record {
           known = known;
           found = known_as;
           course = run.course;
           course_is = course;
-          runs = runs_app (rules_of manifest) facts moment app (app_rule known) old run.choice
+          runs = runs_app (rules_of manifest) facts moment app (app_rule known) old choice
               course.count new course.run requested (rules_have manifest app.appid known known_as)
               valid meant.among;
           prints = run.prints;

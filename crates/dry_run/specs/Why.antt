@@ -18,13 +18,12 @@ use Rattle.dry_run.specs.OnCounters.{RepliesOnCounters}
 use Rattle.dry_run.specs.declared.app_runs.Course.{Course}
 use Rattle.dry_run.specs.declared.why_files.OpenedWhy.{OpenedWhy}
 
--- the lines of an app that the ruleset runs, with some choice
-pub record RunIsExplained (known : JudgedApp) (a : Attributes) (old new text : List ℕ) : Type 0
-  where
-    pub choice : ℕ
-    pub course : Course
-    pub course_is : ExplainsCourse known.program known.rule a old choice new course
-    pub prints : PrintsCourse course text
+-- the lines of an app that the ruleset runs, with the choice of that run
+pub record RunIsExplained (known : JudgedApp) (a : Attributes) (old : List ℕ) (choice : ℕ)
+    (new text : List ℕ) : Type 0 where
+  pub course : Course
+  pub course_is : ExplainsCourse known.program known.rule a old choice new course
+  pub prints : PrintsCourse course text
 
 module _ (manifest : JudgedManifest) (facts : RequestFacts) (moment : ℤ) where
   -- the lines of an app that the ruleset runs, for the run by which the app is answered

@@ -15,7 +15,8 @@ use std::fmt::Write;
 use trace::Jump;
 
 /// The lines of an app that the ruleset doesn't know, followed by its notes.
-pub(crate) fn unknown_app(alloc: Global, appid: &str, note: &str) -> Result<String, AllocError> {
+// open: the lines, and whether an allocation fails: rows.
+pub fn unknown_app(alloc: Global, appid: &str, note: &str) -> Result<String, AllocError> {
     let mut text = String::from_str(alloc, "app ")?;
     push_quoted(&mut text, appid)?;
     text.push_str(": unknown\n")?;
@@ -24,7 +25,8 @@ pub(crate) fn unknown_app(alloc: Global, appid: &str, note: &str) -> Result<Stri
 }
 
 /// The lines of an app that requests no update, followed by its notes.
-pub(crate) fn no_request_app(
+// open: the lines, and whether an allocation fails: rows.
+pub fn no_request_app(
     alloc: Global,
     app: &AppFacts,
     context: Context,

@@ -18,6 +18,7 @@ mod app_lines;
 mod app_runs;
 mod counters;
 mod dry_run_fault;
+mod explained_app;
 mod files;
 mod laws;
 mod notes;
@@ -27,12 +28,14 @@ mod wanted;
 mod why;
 mod why_files;
 
+pub use app_lines::{no_request_app, unknown_app};
 pub use dry_run_fault::DryRunFault;
+pub use explained_app::{AppReasons, app_reasons};
 pub use files::{Opened, open_files};
 pub use laws::{
     explains_reply, has_one_reply, notes_are_so, opens_the_same, refuses_alike, sends_replies,
     sends_what_is_found,
 };
-pub use on_counters::reply_on_counters;
+pub use on_counters::{assigned_counters, reply_on_counters};
 pub use why::why_on_counters;
-pub use why_files::{OpenedWhy, open_why};
+pub use why_files::{OpenedWhy, meant_app, open_meant, open_why};

@@ -38,8 +38,10 @@ pub fn reply_on_counters(
     }
 }
 
-/// The counters, with the values that the server and the command line gave.
-pub(crate) fn assigned_counters(
+/// Counters that are 0, except for those in `served` that belong to the arrays, and then for those
+/// in `words`. Returns B7 if the arrays lack a cell of `words`, or its value doesn't fit.
+// open: whether an allocation fails (B4).
+pub fn assigned_counters(
     alloc: Global,
     arrays: &[CellArray],
     served: &[CellAssignment<'_>],

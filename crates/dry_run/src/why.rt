@@ -2,22 +2,21 @@
 
 ghost use Rattle.std.specs.Prelude.{◌≡◌, All, IfOk, IfErr, string_bytes};
 ghost use Rattle.attrs.specs.Facts.{attributes_of};
-ghost use Rattle.dry_run.specs.Meanings.{HasMeaning, IsMeantApp};
+ghost use Rattle.dry_run.specs.Meanings.{IsMeantApp};
 ghost use Rattle.dry_run.specs.OnCounters.{IsUnanswered};
 ghost use Rattle.dry_run.specs.Why as specs;
 
-use crate::app_lines::{course_lines, head_line, no_request_app, offer_line, unknown_app};
-use crate::app_runs::{ExplainedChoice, explain_course};
+use crate::app_lines::{no_request_app, unknown_app};
 use crate::dry_run_fault::DryRunFault;
+use crate::explained_app::{AppReasons, app_reasons};
 use crate::notes::{Notes, note_at, notes_in};
 use crate::on_counters::assigned_counters;
 use crate::why_files::OpenedWhy;
 use answering::NoObserver;
 use attrs::{AppFacts, Attrs, Moment, RequestFacts, SharedFacts};
-use bpf_verify::Verified;
 use cell_assignments::CellAssignment;
 use cells::PlainPass;
-use load::{JudgedApp, JudgedManifest};
+use load::JudgedManifest;
 use omaha_json::{OmahaFault, Request, read_request};
 use std::alloc::{AllocError, Global};
 
@@ -135,7 +134,11 @@ fn explain_app(
         return no_request_app(alloc, stated, attrs.context(), note);
     }
     let _named = known.sources.entry.appid();
-    run_app(alloc, known, stated, attrs, note, counters)
+    let AppReasons {
+        choice: _choice,
+        text,
+    } = app_reasons(alloc, known, stated, attrs, note, counters)?;
+    Ok(text)
 }
 
 // The attributes of an app at a moment.
@@ -151,33 +154,4 @@ fn attrs_of(
         Ok(attrs) => Ok(attrs),
         Err(_) => Err(AllocError),
     }
-}
-
-// The lines of an app that the ruleset runs.
-fn run_app(
-    alloc: Global,
-    known: &JudgedApp,
-    app: &AppFacts,
-    attrs: Attrs,
-    note: &str,
-    counters: &mut PlainPass,
-) -> Result<String, AllocError>
-    requires { HasMeaning known.now.program known.now.rule }
-    ensures { IfOk result (λ text. specs.RunIsExplained known.now attrs counters.old counters.new
-        (string_bytes text)) }
-{
-    let mut text = head_line(alloc, app, attrs.context())?;
-    let program: &Verified = &known.program;
-    let ExplainedChoice { choice, course } = explain_course(
-        alloc,
-        program,
-        &known.rule,
-        attrs,
-        counters,
-    )?;
-    let lines = course_lines(alloc, program.len(), course)?;
-    let after = offer_line(alloc, known.sources.entry.releases(), choice, note)?;
-    text.push_str(lines.as_str())?;
-    text.push_str(after.as_str())?;
-    Ok(text)
 }

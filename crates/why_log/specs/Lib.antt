@@ -1,0 +1,4 @@
+pub mod Requests
+pub mod Machine
+pub mod Found
+pub mod Explained
