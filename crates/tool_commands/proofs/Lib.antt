@@ -1,2 +1,3 @@
 pub mod Unanswered
+pub mod Unlogged
 pub mod Uncompared

@@ -23,6 +23,7 @@ use Rattle.report.specs.Counters.{counters_text}
 use Rattle.tool_commands.specs.Clients.{client_of}
 use Rattle.tool_commands.specs.Diffs.{HasDiffed, IsDiffRefusal}
 use Rattle.tool_commands.specs.DryRuns.{AreServed, HasDryRun, IsDryRunRefusal}
+use Rattle.tool_commands.specs.LoggedWhys.{HasLoggedWhy, IsLoggedRefusal}
 use Rattle.tool_commands.specs.Whys.{HasWhy, IsWhyRefusal}
 use Rattle.tool_commands.specs.declared.tool_fault.Fault.{Fault}
 use Rattle.tool_commands.specs.declared.tool_fault.Fault.TheVariants as fault
@@ -84,6 +85,7 @@ module _ (known : KnownFiles) where
   IsOutput (command.Stage args) (output.Staged outcome) = Unit {0}
   IsOutput (command.Trace run) (output.Traced lines choice instructions) =
       HasTraced known run choice instructions (string_bytes lines)
+  IsOutput (command.Why args) (output.Why text) = HasLoggedWhy known args (string_bytes text)
   IsOutput command output = ⊥
 
   abbrev pub IsRefused : ToolCommand → Fault → Type 0
@@ -107,4 +109,5 @@ module _ (known : KnownFiles) where
   IsRefused (command.Stage args) (fault.Resource resource.Memory) = Unit {0}
   IsRefused (command.Trace run) (fault.Program why) =
       IsRunRefusal known run.path.now run.shape why
+  IsRefused (command.Why args) why = IsLoggedRefusal known args why
   IsRefused command why = ⊥

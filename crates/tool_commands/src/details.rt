@@ -55,6 +55,7 @@ where
         Subject::Request(path) => print_read_fault(rt, path, err),
         Subject::Picture(Some(path)) => print_picture_fault(rt, path, err),
         Subject::Server(Some(port)) => print_connect_fault(rt, port, err),
+        Subject::Logs(paths) => print_unread_log(rt, paths, err),
         _ => false,
     };
 }
@@ -127,6 +128,16 @@ where
     }
 }
 
+// The first log that can't be read.
+fn print_unread_log<R: Files, E: Write>(rt: &R, logs: &[&str], err: &mut E) -> bool {
+    for path in logs {
+        if print_read_fault(rt, *path, err) {
+            return true;
+        }
+    }
+    false
+}
+
 // The first log that isn't a regular file, of which a report can't continue.
 fn print_irregular_log<R: Files, E: Write>(rt: &R, logs: &[&str], err: &mut E) -> bool {
     for path in logs {
@@ -157,10 +168,8 @@ where
     if let Fault::Ask(fault) = fault {
         return print_server_fault(rt, args.operator, fault, err);
     }
-    for path in args.logs.as_slice() {
-        if print_read_fault(rt, *path, err) {
-            return true;
-        }
+    if print_unread_log(rt, args.logs.as_slice(), err) {
+        return true;
     }
     match (fault, args.state) {
         (Fault::Report(ReportFault::Resource(ResourceFault::File)), Some(path)) => {

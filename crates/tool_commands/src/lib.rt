@@ -12,6 +12,7 @@
 mod details;
 mod diffs;
 mod dry_runs;
+mod logged_whys;
 mod manifest_names;
 mod output;
 mod programs;

@@ -60,7 +60,7 @@ pub(crate) enum ToolOutput {
         choice: u8,
         instructions: u32,
     },
-    /// Why each app of a request gets what it gets.
+    /// Why each app of a request gets what it gets, or of the requests of a machine.
     Why {
         text: String,
     },

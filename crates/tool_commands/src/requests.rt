@@ -5,6 +5,7 @@ ghost use Rattle.tool_commands.specs.Outputs.{IsOutput, IsRefused};
 
 use crate::diffs::diffed;
 use crate::dry_runs::dry_run_of;
+use crate::logged_whys::logged_why_of;
 use crate::output::ToolOutput;
 use crate::programs::{explained, traced};
 use crate::reports::{checked, reported};
@@ -47,5 +48,6 @@ where
         ToolCommand::Simulate(args) => simulated(rt, disk, args),
         ToolCommand::Stage(args) => staged(rt, disk, args),
         ToolCommand::Trace(run) => traced(rt.alloc(), disk, run),
+        ToolCommand::Why(args) => logged_why_of(rt, disk, args),
     }
 }

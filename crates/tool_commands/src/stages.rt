@@ -14,7 +14,7 @@ use std::fs::File;
 use std::net::{Net, TcpStream};
 use std::rt::Files;
 use std::time::Clock;
-use tool_words::{Shell, StageAction, StageArgs, ToolCommand, completion_text};
+use tool_words::{Shell, StageArgs, ToolCommand, completion_text};
 
 /// What was done with the folder's files and servers, or why nothing was.
 // open: what `stage` leaves open.
@@ -25,24 +25,9 @@ where
     ensures output { IfOk result (IsOutput (D.known disk.now) (ToolCommand.Stage args.now)) }
     ensures fault { IfErr result (IsRefused (D.known disk.now) (ToolCommand.Stage args.now)) }
 {
-    match stage(rt, disk, &action_of(&args.action), &options_of(args)) {
+    match stage(rt, disk, &args.action, &options_of(args)) {
         Ok(outcome) => Ok(ToolOutput::Staged(outcome)),
         Err(_) => Err(Fault::Resource(ResourceFault::Memory)),
-    }
-}
-
-fn action_of<'x>(action: &StageAction<'x>) -> stage_commands::StageAction<'x> {
-    match action {
-        StageAction::Halt { appid } => stage_commands::StageAction::Halt { appid: *appid },
-        StageAction::Raise { appid, buckets } => stage_commands::StageAction::Raise {
-            appid: *appid,
-            buckets: *buckets,
-        },
-        StageAction::Back => stage_commands::StageAction::Back,
-        StageAction::Put { manifest } => stage_commands::StageAction::Put {
-            manifest: *manifest,
-        },
-        StageAction::Status => stage_commands::StageAction::Status,
     }
 }
 
@@ -51,9 +36,12 @@ fn options_of<'x>(args: &'x StageArgs<'x>) -> StageOptions<'x> {
         operators: args.operators.as_slice(),
         folder: args.folder,
         log: args.log,
+        user: args.user,
+        because: args.because,
         no_load: args.no_load,
         dry_run: args.dry_run,
         anyway: args.anyway,
+        other_server: args.other_server,
     }
 }
 

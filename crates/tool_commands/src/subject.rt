@@ -8,7 +8,7 @@ use manifest_diff::DiffFault;
 use manifest_tools::ManifestToolFault;
 use operator::RequestFault;
 use program_tools::ProgramToolFault;
-use tool_words::{AskArgs, DiffArgs, SimulateArgs, ToolCommand};
+use tool_words::{AskArgs, DiffArgs, SimulateArgs, ToolCommand, WhyArgs};
 
 /// What the words of a refused command name, where looking at it again may show the cause.
 #[derive(Drop)]
@@ -28,6 +28,8 @@ pub(crate) enum Subject<'a> {
     Picture(Option<&'a str>),
     /// The operator's port of a server that doesn't reply.
     Server(Option<u16>),
+    /// The logs, of which one can't be read.
+    Logs(&'a [&'a str]),
 }
 
 /// The subject of a refusal, except of a report.
@@ -44,6 +46,7 @@ pub(crate) fn subject_of<'x>(command: &'x ToolCommand<'x>, fault: &Fault) -> Sub
         },
         ToolCommand::Simulate(args) => simulate_subject(args, fault),
         ToolCommand::Trace(run) => Subject::Program(run.path, None),
+        ToolCommand::Why(args) => why_subject(args, fault),
         _ => Subject::Nothing,
     }
 }
@@ -63,6 +66,16 @@ fn ask_subject<'x>(args: &'x AskArgs<'x>, fault: &Fault) -> Subject<'x> {
         Fault::DryRun(DryRunFault::Manifest(fault)) => manifest(Some(args.manifest), fault),
         Fault::DryRun(DryRunFault::Resource(_)) => Subject::Request(args.request),
         Fault::DryRun(DryRunFault::Cell) => Subject::Arrays(args.manifest, args.manifest),
+        Fault::Ask(RequestFault::Connect) => Subject::Server(args.operator),
+        _ => Subject::Nothing,
+    }
+}
+
+fn why_subject<'x>(args: &'x WhyArgs<'x>, fault: &Fault) -> Subject<'x> {
+    match fault {
+        Fault::DryRun(DryRunFault::Manifest(fault)) => manifest(Some(args.manifest), fault),
+        Fault::DryRun(DryRunFault::Cell) => Subject::Arrays(args.manifest, args.manifest),
+        Fault::Resource(ResourceFault::File) => Subject::Logs(args.logs.as_slice()),
         Fault::Ask(RequestFault::Connect) => Subject::Server(args.operator),
         _ => Subject::Nothing,
     }

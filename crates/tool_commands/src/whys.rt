@@ -72,8 +72,8 @@ where
     }
 }
 
-// The lines, followed by that of the digest.
-fn with_digest(lines: String, digest: [u8; 32]) -> Result<String, AllocError>
+/// The lines, followed by that of the digest.
+pub(crate) fn with_digest(lines: String, digest: [u8; 32]) -> Result<String, AllocError>
     ensures { IfOk result (λ text. string_bytes text ≡ string_bytes lines ++ digest_line digest) }
 {
     let mut text = lines;

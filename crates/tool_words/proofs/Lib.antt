@@ -1,2 +1,3 @@
 mod Lacking
 mod Making
+mod Percents

@@ -11,6 +11,7 @@ use Rattle.tool_words.specs.DiffWords.{LacksDiff}
 use Rattle.tool_words.specs.ReportWords.{LacksReport}
 use Rattle.tool_words.specs.SimulateWords.{LacksSimulate}
 use Rattle.tool_words.specs.StageWords.{LacksStage}
+use Rattle.tool_words.specs.WhyWords.{LacksWhy}
 use Rattle.tool_words.specs.Words.{VerbMakesNone}
 use Rattle.tool_words.specs.declared.args.ToolCommand.TheVariants as command
 use Rattle.tool_words.specs.declared.verb.ToolVerb.TheVariants as verb
@@ -60,3 +61,7 @@ stages_none rows lacks command makes = makes
 pub traces_none : (rows : List Row) → LacksRun rows → VerbMakesNone verb.Trace rows
 traces_none rows lacks (command.Trace run) makes = lacks run makes
 traces_none rows lacks command makes = makes
+
+pub whys_none : (rows : List Row) → LacksWhy rows → VerbMakesNone verb.Why rows
+whys_none rows lacks (command.Why args) makes = lacks args makes
+whys_none rows lacks command makes = makes

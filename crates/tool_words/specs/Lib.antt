@@ -1,5 +1,6 @@
 pub mod Tools
 pub mod AskWords
+pub mod Buckets
 pub mod CheckWords
 pub mod CompletionWords
 pub mod DiffWords
@@ -8,3 +9,4 @@ pub mod SimulateWords
 pub mod StageWords
 pub mod Words
 pub mod Requests
+pub mod WhyWords

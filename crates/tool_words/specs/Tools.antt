@@ -1,42 +1,75 @@
 -- The commands of `rollout-tools`, with their arguments.
-use Rattle.std.specs.Prelude.{List, [], ◌∷◌, codes, false}
+use Rattle.std.specs.Prelude.{List, [], ◌∷◌, codes, false, map}
 use Rattle.clap.specs.Words.{App, Rule, Text}
-use Rattle.command_line.specs.Grammar.{VerbRules, app_of_rules, names_of_rules}
+use Rattle.command_line.specs.Grammar.{VerbRules, app_of_rules, names_of_rules, rule_of_argument}
 use Rattle.command_line.specs.Grammar.{app_options, arrays, bucket, file, files, flag, input}
 use Rattle.command_line.specs.Grammar.{manifest, operator_port, option, releases, repeated}
+use Rattle.command_line.specs.declared.row.CommandRow.{CommandRow}
 use Rattle.tool_words.specs.declared.verb.ToolVerb.{ToolVerb}
 use Rattle.tool_words.specs.declared.verb.ToolVerb.TheVariants as verb
 
 abbrev pub verb_rules : Text → ToolVerb → List Rule → VerbRules ToolVerb
 verb_rules name verb arguments = record { name = name; verb = verb; rules = arguments }
 
--- all commands, in the order of their names
-abbrev pub verbs : List (VerbRules ToolVerb)
-verbs =
-    verb_rules (codes "ask") verb.Ask (manifest ∷ file (codes "REQUEST") ∷ option (codes "at")
-    ∷ repeated (codes "cells") ∷ operator_port false ∷ flag (codes "why") ∷ [])
-    ∷ verb_rules (codes "check") verb.Check
+-- ---- the commands
+
+abbrev pub ask : VerbRules ToolVerb
+ask = verb_rules (codes "ask") verb.Ask
+    (manifest ∷ file (codes "REQUEST") ∷ option (codes "at") ∷ repeated (codes "cells")
+    ∷ operator_port false ∷ flag (codes "why") ∷ [])
+
+abbrev pub check : VerbRules ToolVerb
+check = verb_rules (codes "check") verb.Check
     (files (codes "MANIFEST") ∷ flag (codes "strict") ∷ repeated (codes "allow")
     ∷ flag (codes "json") ∷ [])
-    ∷ verb_rules (codes "completion") verb.Completion (file (codes "SHELL") ∷ [])
-    ∷ verb_rules (codes "diff") verb.Diff
+
+abbrev pub completion : VerbRules ToolVerb
+completion = verb_rules (codes "completion") verb.Completion (file (codes "SHELL") ∷ [])
+
+abbrev pub diff : VerbRules ToolVerb
+diff = verb_rules (codes "diff") verb.Diff
     (file (codes "OLD") ∷ file (codes "NEW") ∷ option (codes "app") ∷ option (codes "from")
     ∷ repeated (codes "cells") ∷ operator_port false ∷ flag (codes "fail-on-lost")
     ∷ flag (codes "json") ∷ [])
-    ∷ verb_rules (codes "explain") verb.Explain (input ∷ releases ∷ arrays ∷ [])
-    ∷ verb_rules (codes "order") verb.Order (input ∷ file (codes "OUT") ∷ [])
-    ∷ verb_rules (codes "report") verb.Report
+
+abbrev pub explain : VerbRules ToolVerb
+explain = verb_rules (codes "explain") verb.Explain (input ∷ releases ∷ arrays ∷ [])
+
+abbrev pub order : VerbRules ToolVerb
+order = verb_rules (codes "order") verb.Order (input ∷ file (codes "OUT") ∷ [])
+
+abbrev pub report : VerbRules ToolVerb
+report = verb_rules (codes "report") verb.Report
     (files (codes "LOG") ∷ option (codes "since") ∷ option (codes "until")
     ∷ flag (codes "prometheus") ∷ option (codes "svg") ∷ option (codes "html")
     ∷ option (codes "state") ∷ flag (codes "heads") ∷ operator_port false ∷ [])
-    ∷ verb_rules (codes "simulate") verb.Simulate
+
+abbrev pub simulate : VerbRules ToolVerb
+simulate = verb_rules (codes "simulate") verb.Simulate
     (manifest ∷ option (codes "against") ∷ option (codes "svg") ∷ option (codes "app")
     ∷ flag (codes "fail-on-lost") ∷ flag (codes "json") ∷ app_options)
-    ∷ verb_rules (codes "stage") verb.Stage
+
+abbrev pub stage : VerbRules ToolVerb
+stage = verb_rules (codes "stage") verb.Stage
     (files (codes "ACTION") ∷ repeated (codes "operator") ∷ option (codes "folder")
-    ∷ option (codes "log") ∷ flag (codes "no-load") ∷ flag (codes "dry-run")
-    ∷ flag (codes "anyway") ∷ [])
-    ∷ verb_rules (codes "trace") verb.Trace (input ∷ releases ∷ arrays ∷ bucket ∷ app_options) ∷ []
+    ∷ option (codes "log") ∷ option (codes "by") ∷ option (codes "because")
+    ∷ flag (codes "no-load") ∷ flag (codes "dry-run") ∷ flag (codes "anyway")
+    ∷ flag (codes "other-server") ∷ [])
+
+abbrev pub trace : VerbRules ToolVerb
+trace = verb_rules (codes "trace") verb.Trace (input ∷ releases ∷ arrays ∷ bucket ∷ app_options)
+
+abbrev pub why : VerbRules ToolVerb
+why = verb_rules (codes "why") verb.Why
+    (manifest ∷ files (codes "LOG") ∷ option (codes "address") ∷ bucket ∷ flag (codes "all")
+    ∷ repeated (codes "cells") ∷ operator_port false ∷ [])
+
+-- ---- all of them
+
+-- in the order of their names
+abbrev pub verbs : List (VerbRules ToolVerb)
+verbs = ask ∷ check ∷ completion ∷ diff ∷ explain ∷ order ∷ report ∷ simulate ∷ stage ∷ trace
+    ∷ why ∷ []
 
 -- their grammar
 abbrev pub tools : App
@@ -44,3 +77,7 @@ tools = app_of_rules verbs
 
 abbrev pub names : List (Text × ToolVerb)
 names = names_of_rules verbs
+
+-- the command of a row in the code
+abbrev pub rules_of_row : CommandRow ToolVerb → VerbRules ToolVerb
+rules_of_row row = verb_rules row.name.now row.verb (map rule_of_argument row.arguments.now)

@@ -10,6 +10,7 @@ use Rattle.tool_words.specs.DiffWords.{HasDiff}
 use Rattle.tool_words.specs.ReportWords.{HasReport}
 use Rattle.tool_words.specs.SimulateWords.{HasSimulate}
 use Rattle.tool_words.specs.StageWords.{HasStage}
+use Rattle.tool_words.specs.WhyWords.{HasWhy}
 use Rattle.tool_words.specs.declared.args.ToolCommand.{ToolCommand}
 use Rattle.tool_words.specs.declared.args.ToolCommand.TheVariants as command
 use Rattle.tool_words.specs.declared.verb.ToolVerb.{ToolVerb}
@@ -28,6 +29,7 @@ VerbMakes verb.Report rows (command.Report args) = HasReport rows args
 VerbMakes verb.Simulate rows (command.Simulate args) = HasSimulate rows args
 VerbMakes verb.Stage rows (command.Stage args) = HasStage rows args
 VerbMakes verb.Trace rows (command.Trace run) = HasRun rows run
+VerbMakes verb.Why rows (command.Why args) = HasWhy rows args
 VerbMakes verb rows command = ⊥
 
 abbrev pub VerbMakesNone : ToolVerb → List Row → Type 0

@@ -4,6 +4,7 @@ use attrs::Moment;
 use cell_assignments::CellAssignment;
 use command_line::{AppArgs, DeclaredShape, RunArgs};
 use moments::NamedTime;
+use stage_records::StageAction;
 
 /// The arguments of `check`: manifests. With `strict`, each warning counts unless its name is among
 /// the allowed ones.
@@ -71,21 +72,6 @@ pub struct ReportArgs<'a> {
     pub operator: Option<u16>,
 }
 
-/// What `stage` does with the folder of a server's files. `buckets` is at most 10000.
-#[derive(Drop)]
-pub enum StageAction<'a> {
-    /// Replace the app's rule or program by one that offers no release.
-    Halt { appid: &'a str },
-    /// Raise the number of buckets that the app's rule lets in.
-    Raise { appid: &'a str, buckets: u32 },
-    /// Undo the last step.
-    Back,
-    /// Put a manifest, and the files that it names, in place.
-    Put { manifest: &'a str },
-    /// Print the steps, and what is in force.
-    Status,
-}
-
 /// The arguments of `stage`: what to do, the operator's ports of the servers that load the result,
 /// and the folder of their files. The ports are in the order of the words, and may be none.
 #[derive(Drop)]
@@ -95,12 +81,17 @@ pub struct StageArgs<'a> {
     pub folder: &'a str,
     /// The log of a server, for `status`.
     pub log: Option<&'a str>,
+    /// Who takes the step, and why: each at most 1,024 bytes.
+    pub user: Option<&'a str>,
+    pub because: Option<&'a str>,
     /// Whether no server loads the result.
     pub no_load: bool,
     /// Whether the command only prints what it would do.
     pub dry_run: bool,
     /// Whether it also does what it would refuse for its consequences.
     pub anyway: bool,
+    /// Whether a server also loads the result if it serves an app of neither side.
+    pub other_server: bool,
 }
 
 /// What `completion` prints: a shell's completions, or the page of the manual.
@@ -123,6 +114,22 @@ pub struct AskArgs<'a> {
     pub operator: Option<u16>,
     /// Whether the output is why each app gets its offer, in place of the reply.
     pub why: bool,
+}
+
+/// The arguments of `why`: a manifest, and logs of a server, the oldest first. The log `-` is
+/// standard input. The counters are `cells`, or those of the server at `operator`.
+#[derive(Drop)]
+pub struct WhyArgs<'a> {
+    pub manifest: &'a str,
+    pub logs: Vec<&'a str>,
+    /// The address of the machine, as the log has it.
+    pub address: Option<&'a str>,
+    /// The bucket of the machine, at most 9999.
+    pub bucket: Option<u16>,
+    /// Whether all its requests are explained, and not only the last three.
+    pub all: bool,
+    pub cells: Vec<CellAssignment<'a>>,
+    pub operator: Option<u16>,
 }
 
 /// A command of `rollout-tools`.
@@ -148,4 +155,6 @@ pub enum ToolCommand<'a> {
     Stage(StageArgs<'a>),
     /// Verify a file's program, run it, and print each step of the run.
     Trace(RunArgs<'a>),
+    /// Print why a machine got what it got, by the lines of logs.
+    Why(WhyArgs<'a>),
 }

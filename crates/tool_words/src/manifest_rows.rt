@@ -1,7 +1,9 @@
-//! The commands on manifests: `ask`, `check`, `diff`, `simulate` and `stage`.
+//! The commands on manifests: `ask`, `check`, `diff`, `simulate`, `stage` and `why`.
 
 use crate::verb::ToolVerb;
-use command_line::{AT, ATTR, CommandArgument, CommandRow, INSTALLED, MANIFEST, TODAY, VERSION};
+use command_line::{
+    AT, ATTR, CommandArgument, CommandRow, INSTALLED, MANIFEST, NumberLimits, TODAY, VERSION,
+};
 
 const CELLS: CommandArgument = CommandArgument::Texts(
     "cells",
@@ -139,7 +141,8 @@ pub(crate) const STAGE: CommandRow<ToolVerb> = CommandRow {
     arguments: &[
         CommandArgument::Words(
             "ACTION",
-            "halt APPID, raise APPID BUCKETS, back, put MANIFEST or status",
+            "halt APPID, resume APPID [SHARE], raise APPID SHARE, back,\n\
+             put MANIFEST, status or history [APPID]",
         ),
         CommandArgument::Texts(
             "operator",
@@ -153,6 +156,8 @@ pub(crate) const STAGE: CommandRow<ToolVerb> = CommandRow {
             "Folder of the server's files; /etc/rollout by default",
         ),
         CommandArgument::Text("log", "LOG", "Log of a server, for `status`"),
+        CommandArgument::Text("by", "NAME", "User whom a step records"),
+        CommandArgument::Text("because", "TEXT", "Why, as a step records it"),
         CommandArgument::Flag("no-load", "Let no server load the result"),
         CommandArgument::Flag("dry-run", "Only print what would be done"),
         CommandArgument::Flag(
@@ -160,5 +165,33 @@ pub(crate) const STAGE: CommandRow<ToolVerb> = CommandRow {
             "Do it even if an app that shares the file is halted, too,\n\
              a machine may lose a release, or a halt is lifted",
         ),
+        CommandArgument::Flag("other-server", "Also load at a server of other apps"),
+    ],
+};
+
+pub(crate) const WHY: CommandRow<ToolVerb> = CommandRow {
+    verb: ToolVerb::Why,
+    name: "why",
+    about: "Explain the last requests of a machine in a server's log",
+    end: Some(
+        "Example: rollout why m.toml server.log --address 203.0.113.7\n\
+         See docs/OPERATING.md, \"Why didn't this machine get the update?\"",
+    ),
+    arguments: &[
+        MANIFEST,
+        CommandArgument::Words(
+            "LOG",
+            "Files of a server's log, the oldest first; - is standard input",
+        ),
+        CommandArgument::Text("address", "A", "Address of the machine, as the log has it"),
+        CommandArgument::OptionalNumber(
+            "bucket",
+            "N",
+            NumberLimits(0, 9999),
+            "Bucket of the machine, 0 to 9999: 56 for the cohort b:0056",
+        ),
+        CommandArgument::Flag("all", "Explain all its requests, not only the last three"),
+        CELLS,
+        SERVER,
     ],
 };

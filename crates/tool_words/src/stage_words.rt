@@ -1,17 +1,19 @@
 //! The arguments of `stage`.
 
 ghost use Rattle.std.specs.Prelude.{◌≡◌, ◌∷◌, [], IfNone, IfOk, IfSome, None, Some, codes, map};
-ghost use Rattle.std.specs.Prelude.{unwrap_or};
+ghost use Rattle.std.specs.Prelude.{option_copied, unwrap_or};
 ghost use Rattle.clap.specs.Words.{first_of, found_of, rows_of};
 ghost use Rattle.command_line.specs.Values.{OnWrong, texts_of as all_texts};
 ghost use Rattle.tool_words.specs.StageWords as specs;
 ghost use Rattle.tool_words.specs.Words.{VerbMakes, VerbMakesNone};
 
-use crate::args::{StageAction, StageArgs, ToolCommand};
+use crate::args::{StageArgs, ToolCommand};
+use crate::buckets::buckets_in;
 use crate::verb::ToolVerb;
 use clap::ArgMatches;
 use command_line::{ArgsError, ArgumentFault, flag_of, optional_text, texts_of};
 use lexing::decimal_within;
+use stage_records::StageAction;
 use std::alloc::Global;
 
 /// The command of `stage`.
@@ -23,16 +25,46 @@ pub(crate) fn read_stage<'a>(
     ensures none { OnWrong result (VerbMakesNone ToolVerb.Stage (rows_of (found_of found.now))) }
 {
     let action = action_of(alloc, found)?;
+    let user = note_of(found, "by", ArgumentFault::By)?;
+    let because = note_of(found, "because", ArgumentFault::Because)?;
     let operators = ports_of(alloc, found)?;
     Ok(ToolCommand::Stage(StageArgs {
         action,
         operators,
         folder: folder_of(found),
         log: optional_text(found, "log"),
+        user,
+        because,
         no_load: flag_of(found, "no-load"),
         dry_run: flag_of(found, "dry-run"),
         anyway: flag_of(found, "anyway"),
+        other_server: flag_of(found, "other-server"),
     }))
+}
+
+/// The most bytes of a name or a reason.
+pub(crate) const MOST_NOTE: usize = 1024;
+
+// The text of an option that a step records.
+#[tactic(auto, using(crate::proofs::Percents::too_long))]
+fn note_of<'a>(
+    found: &ArgMatches<'a>,
+    id: &str,
+    fault: ArgumentFault,
+) -> Result<Option<&'a str>, ArgsError>
+    ensures given { IfOk result (λ note.
+        specs.HasNote id.now (rows_of (found_of found.now)) (option_copied note)) }
+    ensures lacking { OnWrong result (specs.LacksNote id.now (rows_of (found_of found.now))) }
+{
+    match optional_text(found, id) {
+        None => Ok(None),
+        Some(text) => {
+            if text.len() > MOST_NOTE {
+                return Err(ArgsError::Wrong(fault));
+            }
+            Ok(Some(text))
+        }
+    }
 }
 
 fn folder_of<'a>(found: &ArgMatches<'a>) -> &'a str
@@ -70,7 +102,7 @@ fn action_in<'a>(words: &[&'a str]) -> Option<StageAction<'a>>
         [] => None,
         [word] => bare_action(word),
         [word, object] => action_on(word, object),
-        [word, appid, number] => raise(word, appid, number),
+        [word, appid, number] => action_with(word, appid, number),
         _ => None,
     }
 }
@@ -82,6 +114,7 @@ fn bare_action<'a>(word: &str) -> Option<StageAction<'a>>
     match word {
         "back" => Some(StageAction::Back),
         "status" => Some(StageAction::Status),
+        "history" => Some(StageAction::History { appid: None }),
         _ => None,
     }
 }
@@ -93,24 +126,33 @@ fn action_on<'a>(word: &str, object: &'a str) -> Option<StageAction<'a>>
     match word {
         "halt" => Some(StageAction::Halt { appid: object }),
         "put" => Some(StageAction::Put { manifest: object }),
+        "resume" => Some(StageAction::Resume {
+            appid: object,
+            buckets: None,
+        }),
+        "history" => Some(StageAction::History {
+            appid: Some(object),
+        }),
         _ => None,
     }
 }
 
-fn raise<'a>(word: &str, appid: &'a str, number: &str) -> Option<StageAction<'a>>
+#[tactic(auto, using(crate::proofs::Percents::no_share))]
+fn action_with<'a>(word: &str, appid: &'a str, number: &str) -> Option<StageAction<'a>>
     ensures given { IfSome result (specs.Spell (word.now ∷ appid.now ∷ number.now ∷ [])) }
     ensures lacking { IfNone result
         (specs.SpellNone (word.now ∷ appid.now ∷ number.now ∷ [])) }
 {
-    if word != "raise" {
+    let Some(buckets) = buckets_in(number) else {
         return None;
-    }
-    match decimal_within(number, 0, 10000) {
-        Some(buckets) => Some(StageAction::Raise {
+    };
+    match word {
+        "raise" => Some(StageAction::Raise { appid, buckets }),
+        "resume" => Some(StageAction::Resume {
             appid,
-            buckets: buckets as u32,
+            buckets: Some(buckets),
         }),
-        None => None,
+        _ => None,
     }
 }
 

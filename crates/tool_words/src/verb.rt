@@ -13,4 +13,5 @@ pub enum ToolVerb {
     Simulate,
     Stage,
     Trace,
+    Why,
 }

@@ -20,6 +20,7 @@ use crate::rows::tool_rows;
 use crate::simulate_words::read_simulate;
 use crate::stage_words::read_stage;
 use crate::verb::ToolVerb;
+use crate::why_words::read_why;
 use clap::ArgMatches;
 use command_line::{ArgsError, ArgumentFault, WordsFault, command_found, read_matches};
 use std::alloc::Global;
@@ -36,7 +37,7 @@ pub fn read_tool_words<'a, S: AsStr>(
     ensures request { IfOk result (AskFor (map S.text words.now)) }
     ensures fault { IfErr result (IsWordsFault (map S.text words.now)) }
 {
-    let matches = match read_matches(alloc, tool_rows(), words) {
+    let matches = match read_matches(alloc, &tool_rows(), words) {
         Ok(matches) => matches,
         Err(fault) => return Err(fault),
     };
@@ -54,7 +55,7 @@ fn command_of<'a>(alloc: Global, matches: &ArgMatches<'a>) -> Result<ToolCommand
     ensures none { OnWrong result (FoundMakesNone VerbMakes
         (verb_of names (subcommand_rows_of matches.now))) }
 {
-    match command_found(tool_rows(), matches) {
+    match command_found(&tool_rows(), matches) {
         Some((verb, found)) => command_with(alloc, verb, found),
         None => Err(ArgsError::Wrong(ArgumentFault::Missing)),
     }
@@ -79,5 +80,6 @@ fn command_with<'a>(
         ToolVerb::Simulate => read_simulate(found),
         ToolVerb::Stage => read_stage(alloc, found),
         ToolVerb::Trace => read_trace(alloc, found),
+        ToolVerb::Why => read_why(alloc, found),
     }
 }

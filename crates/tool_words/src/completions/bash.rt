@@ -41,10 +41,10 @@ complete -F _rollout rollout
 pub(crate) fn push_bash(text: &mut TextBuffer) {
     text.push(HEAD);
     push_names(text, command_rows());
-    push_names(text, tool_rows());
+    push_names(text, &tool_rows());
     text.push(CASES);
     push_cases(text, command_rows());
-    push_cases(text, tool_rows());
+    push_cases(text, &tool_rows());
     text.push(END);
 }
 

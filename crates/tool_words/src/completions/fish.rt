@@ -16,7 +16,7 @@ complete -c rollout -f
 pub(crate) fn push_fish(text: &mut TextBuffer) {
     text.push(HEAD);
     push_commands(text, command_rows());
-    push_commands(text, tool_rows());
+    push_commands(text, &tool_rows());
 }
 
 fn push_commands<V>(text: &mut TextBuffer, rows: &[CommandRow<V>]) {

@@ -47,7 +47,7 @@ The folder docs of the package, which begins with PROGRAM.md and OPERATING.md.
 pub(crate) fn push_manual(text: &mut TextBuffer) {
     text.push(HEAD);
     push_commands(text, command_rows());
-    push_commands(text, tool_rows());
+    push_commands(text, &tool_rows());
     text.push(END);
 }
 

@@ -65,7 +65,7 @@ impl ArgumentParts {
     pub(crate) fn words(&self) -> &'static str {
         match self.value {
             "SHELL" => "bash zsh fish man",
-            "ACTION" => "halt raise back put status",
+            "ACTION" => "halt resume raise back put status history",
             _ => "",
         }
     }

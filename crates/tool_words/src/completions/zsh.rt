@@ -38,10 +38,10 @@ fi
 pub(crate) fn push_zsh(text: &mut TextBuffer) {
     text.push(HEAD);
     push_commands(text, command_rows());
-    push_commands(text, tool_rows());
+    push_commands(text, &tool_rows());
     text.push(CASES);
     push_cases(text, command_rows());
-    push_cases(text, tool_rows());
+    push_cases(text, &tool_rows());
     text.push(END);
 }
 

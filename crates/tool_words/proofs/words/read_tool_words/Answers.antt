@@ -17,19 +17,19 @@ read_matches-requires g c = ap is_simple_and_free c.tool_rows.ensures.grammar âˆ
 pub returns-in-Err-clause-fault : goal.returns-in-Err-clause-fault
 returns-in-Err-clause-fault g c =
     let words = map g.S.AsStr.text c.args.words.now in
-    of_grammar (app_of_rows c.tool_rows.result.now) tools (AskForNothing words) words
+    of_grammar (app_of_rows c.tool_rows.result) tools (AskForNothing words) words
     c.in-Err.fault c.tool_rows.ensures.grammar c.in-Err.ensures.fault
 
 pub returns-in-Ok-command_of-clause-request : goal.returns-in-Ok-command_of-clause-request
 returns-in-Ok-command_of-clause-request g c =
-    asks_for VerbMakes (app_of_rows c.tool_rows.result.now) tools names
+    asks_for VerbMakes (app_of_rows c.tool_rows.result) tools names
     (map g.S.AsStr.text c.args.words.now) (subcommand_rows_of c.in-Ok.matches)
     c.in-Ok-command_of.command c.tool_rows.ensures.grammar c.in-Ok.ensures.rows
     c.in-Ok.ensures.fits c.in-Ok-command_of.ensures.made
 
 pub returns-in-Err-Wrong-clause-fault : goal.returns-in-Err-Wrong-clause-fault
 returns-in-Err-Wrong-clause-fault g c =
-    asks_for_nothing VerbMakes (app_of_rows c.tool_rows.result.now) tools names
+    asks_for_nothing VerbMakes (app_of_rows c.tool_rows.result) tools names
     (map g.S.AsStr.text c.args.words.now) (subcommand_rows_of c.in-Ok.matches)
     c.tool_rows.ensures.grammar c.in-Ok.ensures.rows c.in-Ok.ensures.fits
     (c.command_of.ensures.none c.in-Err-Wrong.fault
