@@ -13,7 +13,7 @@ use std::io::{self, ErrorKind, Write};
 use std::os::unix::fs::symlink;
 
 /// The commands of `rollout-tools`; `rollout` has any other word.
-const TOOLS: [&str; 10] = [
+const TOOLS: [&str; 11] = [
     "check",
     "diff",
     "explain",
@@ -22,6 +22,7 @@ const TOOLS: [&str; 10] = [
     "simulate",
     "ask",
     "report",
+    "why",
     "stage",
     "completion",
 ];
