@@ -11,7 +11,7 @@ from pathlib import Path
 ROOT = Path(__file__).resolve().parent.parent
 ROLLOUT = ROOT / "crates" / "rollout" / "out" / "rlib" / "rollout"
 TOOLS = {
-    "check", "diff", "simulate", "ask", "report", "stage", "trace", "explain", "order", "completion"
+    "check", "diff", "simulate", "ask", "report", "why", "stage", "trace", "explain", "order", "completion"
 }
 HASH = "ba7816bf8f01cfea414140de5dae2223b00361a396177a9cb410ff61f20015ad"
 HEAD = "POST /service/update2/json HTTP/1.1\r\nHost: h\r\n"

@@ -18,7 +18,7 @@ OFFERED = [
     (["serve", "--op"], ["--operator"]),
     (["diff", "m.toml", "--fa"], ["--fail-on-lost"]),
     (["stage", "ha"], ["halt"]),
-    (["stage", ""], ["halt", "raise", "back", "put", "status"]),
+    (["stage", ""], ["halt", "resume", "raise", "back", "put", "status", "history"]),
     (["stage", "put", "m."], ["m.toml"]),
     (["completion", "z"], ["zsh"]),
     (["check", "m."], ["m.toml"]),

@@ -21,6 +21,9 @@ ASKED = "curl -s http://127.0.0.1:8080/service/update2/json --data-binary @-"
 SERVING = "--port 8080 --operator 8081 --workers 1 --log"
 OFFERED, NOTHING = '"version":"2.1"', '"status":"noupdate"'
 REPLACED = "replaced editor.rule\nserver at 18098: generation {}\n"
+HALTED = "server at 18098: generation 3, editor is halted\n"
+# When a step was taken, by whom and why, which differs from the page.
+UNLIKE = re.compile(r"\d{4}-\d\d-\d\dT\S+Z|since \d\d:\d\d| by \w+|: crash at start| \([^)]*\)")
 # The fewest file descriptors with which a server starts, as "On a host" says.
 LEAST = 10
 # What the last recipe prints after the moment and the address.
@@ -100,7 +103,7 @@ def asking():
 def wrong_stages(day):
     """Raises a stage, halts it, and undoes both."""
     raising, moves, _ = section("OPERATING.md", "Raising a stage")
-    [halting] = section("OPERATING.md", "Halting a release")
+    halting, _ = section("OPERATING.md", "Halting a release")
     comparing, ask, buckets, _ = section("OPERATING.md", "What is being served")
     if NOTHING not in (said := day.run(ask)):
         return f"before: {said}"
@@ -112,7 +115,7 @@ def wrong_stages(day):
         return f"after it: {said}"
     if (said := day.run(buckets)).splitlines()[1:5] != ["0", "1", "2", "6"]:
         return f"buckets: {said}"
-    if (said := day.run(halting)) != REPLACED.format(3):
+    if (said := day.run(halting)) != HALTED + REPLACED.format("4, halted: editor"):
         return f"halting: {said}"
     if NOTHING not in (said := day.run(ask)):
         return f"after a halt: {said}"
@@ -120,13 +123,13 @@ def wrong_stages(day):
 
 
 def wrong_status(day):
-    """The status after a raise and a halt, but for the times, and then undoing the halt."""
+    """The status after a raise and a halt, but for when, by whom and why; then undoes the halt."""
     shown = section("OPERATING.md", "Steps, and going back")[0]
     commands = [it.removeprefix("$ ") for it in shown.splitlines() if it.startswith("$ ")]
     told = day.run(" && ".join(commands))
     wanted = [line for line in shown.splitlines() if not line.startswith("$ ")]
     for line, found in zip(wanted, told.splitlines(), strict=True):
-        if re.sub(r" of \S+:", "", line.replace("8081", "18098")) != re.sub(r" of \S+:", "", found):
+        if UNLIKE.sub("", line.replace("8081", "18098")) != UNLIKE.sub("", found):
             return f"{found}, not {line}"
     day.run("rollout stage halt editor --operator 8081")
 

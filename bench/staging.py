@@ -1,9 +1,14 @@
 """Checks `rollout stage` on a folder and its servers: what it changes, what it leaves, where it
 stops, and what it says. Each check is a way in which a script that edited manifests did harm.
 """
+import contextlib
 import fcntl
 import os
+import socket
+import socketserver
 import subprocess
+import threading
+import time
 
 from hosts import awaited, needs
 from operating import ASKED, BUILT, NOTHING, OFFERED, Day
@@ -72,18 +77,18 @@ def steps(folder):
         calls = [
             ("raise editor 2500", ["none       2.1", "replaced editor.rule\n", "generation 2\n"]),
             ("raise editor 2500", ["the files are so already\n", "generation 3\n"]),
-            ("halt editor", ["replaced editor.rule\n", "generation 4\n"]),
-            ("halt editor", ["the files are so already\n", "generation 5\n"]),
+            ("halt editor", ["4, editor is halted\nreplaced editor", "5, halted: editor\n"]),
+            ("halt editor", ["5, editor is halted\nthe files are so", "6, halted: editor\n"]),
             ("raise editor 5000", ["1 stage: editor.rule isn't raised: it halts the app"]),
-            ("status", ["done step 2 of", "halted: editor\n", "generation 5, what is in place "]),
+            ("status", ["done step 2 of", "HALTED since", "generation 6, what is in place"]),
             ("back", ["1 stage: this lifts the halt of editor (--anyway continues);"]),
-            ("back --anyway", ["none       2.1", "undone step 2 of", "generation 6\n"]),
+            ("back --anyway", ["none       2.1", "undone step 2 of", "editor is offered again\n"]),
             ("raise editor 100", ["lost", "1 stage: a row is lost"]),
             ("raise editor 100 --anyway --dry-run", ["would replace editor.rule\n"]),
             ("back", ["lost", "1 stage: a row is lost"]),
-            ("back --anyway", ["undone step 1 of", "generation 7\n"]),
+            ("back --anyway", ["undone step 1 of", "generation 9\n"]),
             ("back", ["1 stage: no step is left to be undone; nothing has changed\n"]),
-            ("halt nobody", ["1 stage: current.toml has no app nobody, only editor;"]),
+            ("halt nobody", ["B8 App", "stage: current.toml has no app nobody, only editor;"]),
         ]
         for words, wanted in calls:
             said = it.stage(f"{words} --operator 8081")
@@ -127,7 +132,7 @@ def both_servers(folder):
                 return "the second server doesn't offer"
             for ports in ("--operator 8081", "--operator 8081 --operator 18108"):
                 said = it.stage(f"halt editor {ports}")
-                if said.count("generation") != ports.count("--"):
+                if said.count("generation") != 2 * ports.count("--"):
                     return f"{ports}: {said}"
             if NOTHING not in (said := it.run(ask, REQUEST % "editor")):
                 return f"the second server: {said}"
@@ -140,13 +145,63 @@ def both_servers(folder):
             second.kill()
 
 
+def wrong_served(it, calls):
+    """The first of these calls whose status isn't the wanted one, or whose output lacks a text."""
+    for words, status, wanted in calls:
+        said = it.run(f"rollout {words}")
+        if wanted not in said or ("\n1 " in said or said.startswith("1 ")) != (status == 1):
+            return f"{words}: {said!r}, not {wanted!r}"
+    return None
+
+
 def what_is_served(folder):
-    """A status knows whether a server has what is in place, if `stage` loaded it last. If another
-    command did, the status says so, and the server's log decides."""
+    """A status knows whether a server has what is in place, and else which step's files."""
     it = Stage(folder / "served")
-    unsure = "the apps in place; only its log shows which rules it loaded (--log LOG)\n"
     with it.served():
-        for words, status, wanted in (
+        calls = (
+            ("stage status", 0, "generation 1, what is in place\n"),
+            ("stage raise editor 2500", 0, "generation 2\n"),
+            ("stage raise editor 4000 --no-load", 0, "replaced editor.rule\n"),
+            ("stage status", 1, "generation 2, step 1, not what is in place: load it\n"),
+            ("load /etc/rollout/current.toml", 0, "generation 3\n"),
+            ("stage status", 0, "generation 3, what is in place\n"),
+            ("stage status --log server.log", 0, "what is in place was loaded last\n"),
+            ("stage put /etc/rollout/current.toml", 0, "generation 4\n"),
+        )
+        return wrong_served(it, [(f"{words} --operator 8081", *more) for words, *more in calls])
+
+
+@contextlib.contextmanager
+def older():
+    """The operator's port of a server without `state`, `halt` and `resume`: the other words are
+    those of the server at 18098."""
+
+    class Handler(socketserver.StreamRequestHandler):
+        def handle(self):
+            line = self.rfile.readline()
+            if line.split()[0] in (b"state", b"halt", b"resume"):
+                self.wfile.write(b"refused B1 Word\n")
+                return
+            with socket.create_connection(("127.0.0.1", 18098)) as server:
+                server.sendall(line)
+                while reply := server.recv(65536):
+                    self.wfile.write(reply)
+
+    with socketserver.ThreadingTCPServer(("127.0.0.1", 0), Handler) as server:
+        threading.Thread(target=server.serve_forever, daemon=True).start()
+        try:
+            yield server.server_address[1]
+        finally:
+            server.shutdown()
+
+
+def older_server(folder):
+    """Of an older server a status knows the last load by `stage`. If another command loaded, the
+    status says so, and the server's log decides. A halt is there by its load."""
+    it = Stage(folder / "older")
+    unsure = "the apps in place; only its log shows which rules it loaded (--log LOG)\n"
+    with it.served(), older() as port:
+        calls = (
             ("stage status", 1, f"generation 1, {unsure}"),
             ("stage raise editor 2500", 0, "generation 2\n"),
             ("stage status", 0, "generation 2, what is in place unless restarted since\n"),
@@ -155,31 +210,36 @@ def what_is_served(folder):
             ("load /etc/rollout/current.toml", 0, "generation 3\n"),
             ("stage status", 1, f"generation 3, {unsure}"),
             ("stage status --log server.log", 0, "what is in place was loaded last\n"),
-            ("stage put /etc/rollout/current.toml", 0, "generation 4\n"),
-            ("stage status", 0, "generation 4, what is in place unless restarted since\n"),
-        ):
-            said = it.run(f"rollout {words} --operator 8081")
-            if wanted not in said or said.endswith("\n1 ") != (status == 1):
-                return f"{words}: {said!r}, not {wanted!r}"
+            ("stage halt editor 2>&1", 0, "it is older, and halts editor by a load alone\n"),
+        )
+        return wrong_served(it, [(f"{words} --operator {port}", *more) for words, *more in calls])
 
 
 def other_manifest(folder):
-    """A server of another manifest: a load says which apps are gone, or what is wrong. Its port is
-    that of ROLLOUT_OPERATOR, if no option names one; and usage has the launcher's name."""
+    """A server of another manifest is loaded only by --other-server. The load says which apps are
+    gone. Its port is that of ROLLOUT_OPERATOR, if no option names one. Usage has the launcher's
+    name."""
     it = Stage(folder / "other", [('[[app]]\nappid = "agent"', 'rule = "editor.rule"')])
     served = Stage(folder / "editors")
     with served.served():
-        said = it.run("ROLLOUT_OPERATOR=8081 rollout stage halt agent 2>&1")
+        said = it.run("ROLLOUT_OPERATOR=8081 rollout stage halt agent")
+        if "not loaded, it is another one: it serves editor" not in said or "\n1 " not in said:
+            return f"another server: {said!r}"
+        said = it.run("rollout stage put current.toml --operator 8081")
+        if "1 stage: server at 18098 is another one: it serves editor, loaded" not in said:
+            return f"another server, by a put: {said!r}"
+        said = it.run("ROLLOUT_OPERATOR=8081 rollout stage halt agent --other-server 2>&1")
         if "generation 2\n" not in said or "server at 18098: apps gone: editor\n" not in said:
             return f"ROLLOUT_OPERATOR: {said!r}"
         said = it.run("ROLLOUT_OPERATOR=1 rollout stage status --operator 8081")
-        if "generation 2, what is in place unless restarted since\n" not in said:
+        if "generation 2, what is in place\n" not in said:
             return f"--operator: {said!r}"
         if "server at 1:" in said:
             return f"ROLLOUT_OPERATOR beside --operator: {said!r}"
         it.write("wrong.toml", "server = 1\n")
         said = it.run("rollout load /etc/rollout/wrong.toml --operator 8081")
-        if said != "1 refused M2 Field\nserver: a text\n":
+        hint = f"rollout check {it.folder}/wrong.toml prints the place and the reason"
+        if said != f"1 refused M2 Field\n{hint}\n":
             return f"a refused load: {said!r}"
     if "Usage: rollout stage " not in (said := it.run("rollout stage --help")):
         return said
@@ -285,14 +345,25 @@ def links_stay(folder):
 
 
 def one_at_a_time(folder):
-    """A second call is refused while the first is at work; one file of two apps is named."""
+    """A second call is refused while the first is at work, but a halt waits for it; one file of two
+    apps is named."""
     it = Stage(folder / "lock")
+    alone(it, "raise editor 600")
+    (it.folder / ".stage" / "at_work").write_text("put a.toml by anna, pid 4711, since 12:04")
     held = os.open(it.folder, os.O_RDONLY)
     fcntl.flock(held, fcntl.LOCK_EX)
-    said = alone(it, "halt editor")
-    os.close(held)
-    if "at work" not in said:
+    said = alone(it, "raise editor 700")
+    if "at work here" not in said or "(put a.toml by anna, pid 4711, since 12:04);" not in said:
         return said
+    words = it.words("rollout stage halt editor --folder /etc/rollout --no-load")
+    with subprocess.Popen(words, stdout=subprocess.PIPE, text=True, **it.place()) as halt:
+        time.sleep(1)
+        os.close(held)
+        if "replaced editor.rule\n" not in (said := halt.communicate()[0]):
+            return f"a halt that waits: {said}"
+    if (it.folder / ".stage" / "at_work").read_text():
+        return "the note stays after the call"
+    alone(it, "back --anyway")
     twice = [EDITOR, ('[[app]]\nappid = "other"', 'rule = "./editor.rule"')]
     it.write("current.toml", manifest(twice))
     for words in ("halt editor", "raise editor 2500"):
@@ -329,7 +400,7 @@ def stops_truly(folder):
         return f"status of both: {said}"
     in_the_way(it, ".stage/2.json")
     said = alone(it, "back --anyway")
-    if "1 stage: the files are restored, but .stage can't be written: " not in said:
+    if "\nstage: the files are restored, but .stage can't be written: " not in said:
         return f"the record: {said}"
     if "nothing has changed" in said or it.bytes("other.rule") != (RULE % 500).encode():
         return f"the file isn't restored: {said}"
@@ -339,11 +410,105 @@ def stops_truly(folder):
         return f"back again: {said}"
 
 
+def halts_in_trouble(folder):
+    """The servers halt an app though the folder refuses the step, or they refuse its manifest."""
+    needs("curl")
+    apps = [EDITOR, ('[[app]]\nappid = "other"', 'rule = "other.rule"')]
+    it = Stage(folder / "trouble", apps, **{"other.rule": RULE % 9, "editor.rule": RULE % 10000})
+
+    def wrong(case, wanted):
+        said = it.stage("halt editor --operator 8081")
+        if ", editor is halted\n" not in said or "\n1 " not in said or wanted not in said:
+            return f"{case}: {said}"
+        if NOTHING not in (said := it.run(ASKED, REQUEST % "editor")):
+            return f"{case}: offered: {said}"
+        it.run("rollout resume editor --operator 8081")
+        if OFFERED not in (said := it.run(ASKED, REQUEST % "editor")):
+            return f"{case}: not offered again: {said}"
+        return None
+
+    with it.served():
+        held = os.open(it.folder, os.O_RDONLY)
+        fcntl.flock(held, fcntl.LOCK_EX)
+        locked = wrong("another call", "wait until it has ended; no file has changed\n")
+        os.close(held)
+        in_the_way(it, "editor.rule")
+        full = wrong("a stopped step", "stage: halted until a restart at 18098")
+        for number in range(100):
+            (it.folder / f"editor.rule.{number}.new").unlink()
+        it.write("other.rule", "no rule")
+        refused = wrong("another app's rule", "until a restart loads the files: call rollout check")
+        it.write("other.rule", RULE % 9)
+        it.stage("back --anyway --no-load")
+    return locked or full or refused
+
+
+def drifts(folder):
+    """An action stops if a server serves an earlier step, or something of no step, or if a file was
+    edited since; rows begin with what is served."""
+    it = Stage(folder / "drifts")
+    mends = "rollout load"
+    with it.served():
+        alone(it, "raise editor 2500")
+        said = it.stage("raise editor 5000 --operator 8081")
+        if "1 stage: server at 18098 serves what was there before the first step" not in said:
+            return f"an earlier step: {said}"
+        if mends not in said or it.bytes("editor.rule") != (RULE % 2500).encode():
+            return f"nothing has changed: {said}"
+        said = it.stage("raise editor 5000 --operator 8081 --anyway")
+        if "from what the server at 18098 serves" not in said or ">= 500 and" not in said:
+            return f"--anyway: {said}"
+        it.write("editor.rule", RULE % 9000)
+        said = it.stage("raise editor 9500 --operator 8081")
+        if "1 stage: editor.rule was edited since step 2" not in said:
+            return f"an edited file: {said}"
+        other = Stage(folder / "drifted", **{"editor.rule": RULE % 6000})
+        said = it.stage(f"put {other.folder}/current.toml --operator 8081")
+        if ">= 5000 and bucket(3) < 6000" not in said or "lost" in said:
+            return f"a put: {said}"
+        it.run(f"rollout load {other.folder}/current.toml --operator 8081")
+        other.write("editor.rule", RULE % 6500)
+        it.run(f"rollout load {other.folder}/current.toml --operator 8081")
+        said = it.stage("raise editor 7000 --operator 8081")
+        if "1 stage: server at 18098 serves what no step left, loaded " not in said:
+            return f"of no step: {said}"
+
+
+def resumes(folder):
+    """A halted app is resumed by the rule before its halt, cut to a share, at servers and in the
+    files; and a lone halt at a server isn't lifted."""
+    needs("curl")
+    rule = RULE.replace("(3)", "")
+    it = Stage(folder / "resumes", **{"editor.rule": rule % 10000})
+    with it.served():
+        it.stage("halt editor --operator 8081")
+        said = it.stage("resume editor 1% --operator 8081")
+        wanted = ["none       2.1", "from before the halt:\n", "replaced editor.rule\n"]
+        wanted += ["editor is offered again\n"]
+        if lost := [text for text in wanted if text not in said]:
+            return f"resume: {said!r} lacks {lost}"
+        if it.bytes("editor.rule") != (rule % 100).encode():
+            return "the rule isn't cut"
+        asked = REQUEST.replace('"version"', '"cohort":"b:0000","version"')
+        if OFFERED not in (said := it.run(ASKED, asked % "editor")):
+            return f"not offered: {said}"
+        if "1 stage: editor isn't halted by a step" not in (said := alone(it, "resume editor")):
+            return f"resume again: {said}"
+        it.run("rollout halt editor --operator 8081 2>&1")
+        said = it.stage("raise editor 200 --operator 8081")
+        if NOTHING not in (said := it.run(ASKED, asked % "editor")):
+            return f"a server's halt is lifted: {said}"
+
+
 STAGES = {
     "stage: raise, halt, back": steps,
     "stage: any rule and program is halted": halts_any_rule,
     "stage: both servers of a folder": both_servers,
+    "stage: a halt in trouble": halts_in_trouble,
+    "stage: servers that serve something else": drifts,
+    "stage: resume": resumes,
     "stage: what a server serves": what_is_served,
+    "stage: an older server": older_server,
     "stage: a server of another manifest": other_manifest,
     "stage: a quota that is used up": used_quota,
     "stage: a halt isn't lifted": lifted,

@@ -1,0 +1,138 @@
+"""Goes on by a call of `stage` that nothing was in the way of: what it has to print, and what the
+files, the steps and the servers have to be from then on."""
+import re
+
+from nightly.calls import STOPS
+from nightly.night import KEPT, UNCHANGED
+from nightly.plans import is_other, known_apps, plan_of
+from nightly.rows import untrue_rows
+from nightly.servers import generations
+
+
+def expect(night, call, said, is_loose=False):
+    """Yields what a call said that isn't so. If `is_loose`, another call was at work, and the lines
+    about servers and the status aren't compared."""
+    status, output, errors = said
+    plan = plan_of(night, call)
+    has_stopped = UNCHANGED in errors or KEPT in errors
+    yield from untrue_rows(night, plan, call, output)
+    lines, missing = halt_servers(night, call, errors)
+    yield from missing
+    if plan.stops and not has_stopped:
+        yield f"it has to stop by {sorted(plan.stops)}"
+        return
+    if has_stopped and not plan.stops | plan.perhaps:
+        yield "it has to go on"
+        return
+    if has_stopped:
+        yield from untrue_stop(plan, call, output, errors)
+        is_bad = True
+    else:
+        yield from untrue_files(plan, call, output)
+        known = known_apps(night, plan)
+        if not call.dry_run:
+            take(night, plan)
+        more, is_bad = load_servers(night, call, plan, known, output)
+        lines += more
+    printed = [it for it in output.splitlines() if it.startswith("server at")]
+    if not is_loose and printed != lines:
+        yield f"servers: {printed}, not {lines}"
+    if not is_loose and status != (1 if is_bad else 0):
+        yield f"the status isn't {1 if is_bad else 0}"
+
+
+def untrue_stop(plan, call, output, errors):
+    """What a stop says that isn't so."""
+    reasons = plan.stops | plan.perhaps
+    if not any(re.search(STOPS[it], errors) for it in reasons):
+        yield f"a stop of another reason than {sorted(reasons)}"
+    if KEPT in errors and call.word != "halt":
+        yield "only a halt may leave changed servers"
+    if re.search("^replaced|^undone", output, re.M):
+        yield "a stop after a file was replaced"
+
+
+def untrue_files(plan, call, output):
+    """What a call says of files that isn't so."""
+    if plan.undone:
+        word = "would undo" if call.dry_run else "undone"
+        if f"{word} step {plan.undone.number} of " not in output:
+            yield f"{word} step {plan.undone.number}"
+        return
+    verb = "would replace" if call.dry_run else "replaced"
+    lines = [f"{verb} {it}" for it in plan.files]
+    if [it for it in output.splitlines() if re.match("would replace|replaced", it)] != lines:
+        yield f"it replaces {list(plan.files)}"
+    if not plan.files and "the files are so already" not in output:
+        yield "the files are so already"
+
+
+def take(night, plan):
+    """The files and steps after a call that went on."""
+    night.left += [plan.now, plan.then]
+    for name, text in plan.files.items():
+        if text is None:
+            night.files.pop(name, None)
+        else:
+            night.files[name] = text
+    if plan.undone:
+        plan.undone.is_undone = True
+    if plan.step:
+        night.steps.append(plan.step)
+
+
+def halt_servers(night, call, errors):
+    """The lines of a halt's servers, which come first; and what is missing among the errors."""
+    lines, missing = [], []
+    if call.word != "halt" or call.no_load or call.dry_run:
+        return lines, missing
+    for it in call.servers:
+        place = f"server at {it.operator}"
+        if not it.is_up:
+            if f"{place}: refused B5 Connect" not in errors:
+                missing.append(f"{it.operator} doesn't reply")
+        elif call.appid not in (*it.load.appids(), *it.halts):
+            if f"{place}: refused B8 App" not in errors:
+                missing.append(f"{it.operator} has no app {call.appid}")
+        else:
+            if call.appid not in it.halts:
+                it.halts.insert(0, call.appid)
+                it.generation += 1
+            lines.append(f"{place}: generation {it.generation}, {call.appid} is halted")
+    return lines, missing
+
+
+def is_loaded(night, call, plan, known, server, output):
+    """Whether a server is loaded after the files were replaced. A halt leaves one alone that serves
+    something else than is in place; of one where that is the halted app alone no page speaks."""
+    if not server.is_up or plan.then is None:
+        return False
+    if is_other(night, known, server):
+        return call.other_server
+    loads = [it for it in (plan.now, plan.then) if it]
+    if call.word != "halt" or call.anyway or server.load in loads:
+        return True
+    if any(it.is_but_for(call.appid, server.load) for it in loads):
+        return len(generations(output, server.operator)) == 2
+    return False
+
+
+def load_servers(night, call, plan, known, output):
+    """The lines of servers that load, and whether one of them isn't loaded."""
+    lines, is_bad = [], False
+    for it in () if call.no_load or call.dry_run else call.servers:
+        if not is_loaded(night, call, plan, known, it, output):
+            is_bad = True
+            continue
+        it.load, it.path = plan.then, night.folder / "current.toml"
+        it.generation += 1
+        more = f", halted: {', '.join(it.halts)}" if it.halts else ""
+        lines.append(f"server at {it.operator}: generation {it.generation}{more}")
+        maybe = [it for it in plan.maybe_lifted if f", {it} is offered again\n" in output]
+        for app in (*plan.lifted, *maybe):
+            if app in it.halts:
+                it.halts.remove(app)
+                it.generation += 1
+            more = f", {app} is offered again"
+            lines.append(f"server at {it.operator}: generation {it.generation}{more}")
+    return lines, is_bad

@@ -1,0 +1,247 @@
+"""What a call of `stage` has to do, by docs/OPERATING.md and docs/DECISIONS.md: which files it
+replaces, which step it records, which halts it lifts, and which stops are right."""
+from dataclasses import dataclass, field, replace
+
+from nightly.calls import Step
+from nightly.rules import KNOWN, NOTHING, load_of, loses, with_share
+
+
+@dataclass
+class Plan:
+    """What a call has to do, unless `stops` has a reason. A call may stop for each reason of
+    `perhaps`, of which the pages say nothing."""
+
+    stops: set = field(default_factory=set)
+    perhaps: set = field(default_factory=set)
+    files: dict = field(default_factory=dict)
+    step: Step = None
+    undone: Step = None
+    lifted: list = field(default_factory=list)
+    # Apps that halt by their files, though not by the last step that has them: a halt of theirs
+    # that was resumed, and not undone, may still count.
+    maybe_lifted: list = field(default_factory=list)
+    now: object = None
+    then: object = None
+
+
+def is_in_force(night, appid, file):
+    """Whether the last step that has this file is a halt of the app, and the file halts it still;
+    None if a halt was overwritten by hand."""
+    having = [it for it in night.steps if not it.is_undone and file in it.after]
+    if not having or having[-1].action != f"halt {appid}":
+        return False
+    return True if having[-1].after[file] == night.files.get(file) else None
+
+
+def may_be_in_force(night, app):
+    """Whether a halt of an app that isn't undone may count, since its file halts it again."""
+    is_halted = night.files.get(app.file) == NOTHING[app.kind]
+    halts = (it for it in night.steps if it.action == f"halt {app.appid}")
+    return is_halted and any(not it.is_undone for it in halts)
+
+
+def app_in(load, appid):
+    return next((it for it in load.apps if it.appid == appid), None)
+
+
+def left_by_steps(night):
+    """The files as the last step left them, whatever was edited since."""
+    files = dict(night.files)
+    for step in night.steps:
+        for name, bytes_after in (step.before if step.is_undone else step.after).items():
+            files[name] = bytes_after
+    return {name: text for name, text in files.items() if text is not None}
+
+
+def known_apps(night, plan):
+    """The apps in place before a call and after it."""
+    texts = [night.files.get("current.toml"), plan.files.get("current.toml")]
+    return {it.appid for text in texts for it in KNOWN.get(text, ())}
+
+
+def is_other(night, known, server):
+    """Whether a server has an app that isn't known in this folder, and serves what no step left."""
+    return bool(set(server.load.appids()) - known) and server.load not in night.left
+
+
+def drifts(night, call, plan):
+    """The reasons for which a server stops an action: it serves something else than is in place."""
+    for server in () if call.no_load else call.servers:
+        if not server.is_up:
+            continue
+        if plan.now and server.load == plan.now:
+            continue
+        is_strange = is_other(night, known_apps(night, plan), server)
+        if is_strange and not call.other_server:
+            plan.stops.add("other")
+        if call.anyway:
+            continue
+        if is_strange and call.other_server:
+            plan.perhaps.add("drift")
+            continue
+        if call.word in ("put", "back") and plan.then == server.load:
+            plan.perhaps.add("drift")
+        elif call.word == "put" and load_of(left_by_steps(night)) == server.load:
+            plan.perhaps.add("drift")
+        else:
+            plan.stops.add("drift")
+
+
+def compares(night, call, plan):
+    """Whether the rows stop a call: from what is served, or from what is in place."""
+    up = [it.load for it in call.servers if it.is_up and not call.no_load] or [plan.now]
+    if call.anyway or not plan.files or None in (*up, plan.then):
+        return
+    if any(loses(it, plan.then) for it in up):
+        plan.stops.add("lost")
+    if plan.now and loses(plan.now, plan.then):
+        plan.perhaps.add("lost")
+
+
+def halted_file(night, call, plan):
+    """The files of a halt, a raise or a resume, once their app is found."""
+    app = app_in(plan.now, call.appid)
+    if app is None:
+        plan.stops.add("app")
+        return None
+    if any(it.file == app.file and it is not app for it in plan.now.apps):
+        if not call.anyway:
+            plan.stops.add("shared")
+    return app
+
+
+def plan_halt(night, call, plan):
+    text = night.files.get("current.toml")
+    load = plan.now or night.load_without_faults()
+    if load is None:
+        plan.stops.add("refused")
+        return
+    if (app := halted_file(night, call, replace(plan, now=load))):
+        plan.files = {app.file: NOTHING[app.kind]}
+        if app.file not in night.files or text is None:
+            plan.perhaps.add("refused")
+
+
+def plan_raise(night, call, plan):
+    load = plan.now or night.load_without_faults()
+    if load is None:
+        plan.stops.add("refused")
+        return
+    if (app := halted_file(night, call, replace(plan, now=load))) is None:
+        return
+    text = night.files.get(app.file, b"")
+    if plan.now is None:
+        plan.perhaps |= {"refused", "test"}
+    if app.kind == "program":
+        plan.stops.add("test")
+    elif text == NOTHING["rule"]:
+        plan.stops.add("halted")
+    elif (raised := with_share(text, call.buckets())) is None:
+        plan.stops.add("test")
+    else:
+        plan.files = {app.file: raised}
+
+
+def plan_resume(night, call, plan):
+    load = plan.now or night.load_without_faults()
+    if load is None:
+        plan.stops.add("refused")
+        return
+    if (app := halted_file(night, call, replace(plan, now=load))) is None:
+        return
+    if plan.now is None:
+        plan.perhaps |= {"refused", "test"}
+    force = is_in_force(night, call.appid, app.file)
+    if not force:
+        plan.stops |= {"unhalted", "again"}
+        return
+    having = [it for it in night.steps if not it.is_undone and app.file in it.after]
+    before = having[-1].before[app.file]
+    if call.share and app.kind == "program":
+        plan.stops.add("test")
+        return
+    if call.share and (before := with_share(before, call.buckets())) is None:
+        plan.stops.add("test")
+        return
+    plan.files, plan.lifted = {app.file: before}, [call.appid]
+
+
+def plan_put(night, call, plan):
+    if load_of(call.source) is None:
+        plan.stops.add("refused")
+        return
+    plan.files = {it: call.source[it] for it in [*dict.fromkeys(
+        app.file for app in load_of(call.source).apps), "current.toml"]}
+    for app in plan.now.apps if plan.now else ():
+        force = is_in_force(night, app.appid, app.file)
+        after = app_in(load_of(call.source), app.appid)
+        if after and plan.files[after.file] == NOTHING[after.kind]:
+            continue
+        if force is False:
+            if may_be_in_force(night, app):
+                plan.perhaps.add("lifts")
+                plan.maybe_lifted.append(app.appid)
+            continue
+        if force and after:
+            plan.lifted.append(app.appid)
+            if not call.anyway:
+                plan.stops.add("lifts")
+        elif not call.anyway:
+            plan.perhaps.add("lifts")
+    if plan.now is None and "current.toml" in night.files:
+        plan.perhaps |= {"lost", "refused", "lifts"}
+
+
+def plan_back(night, call, plan):
+    left = [it for it in night.steps if not it.is_undone]
+    if not left:
+        plan.stops.add("none")
+        return
+    step = left[-1]
+    for name, before in step.before.items():
+        if night.files.get(name) not in (before, step.after[name]):
+            # A dry run doesn't look at this; no page says that it does.
+            (plan.perhaps if call.dry_run else plan.stops).add("edited")
+    plan.undone, plan.files = step, dict(step.before)
+    if step.action.startswith("halt "):
+        # A halt that stopped before its file was replaced isn't in force.
+        is_done = plan.files and any(night.files.get(n) == step.after[n] for n in plan.files)
+        (plan.lifted if is_done else plan.maybe_lifted).append(step.appid)
+        if not call.anyway:
+            (plan.stops if is_done else plan.perhaps).add("lifts")
+    elif plan.now is None and not call.anyway:
+        plan.perhaps.add("lifts")
+    for app in plan.now.apps if plan.now else ():
+        if app.file in step.before and app.appid not in plan.lifted and may_be_in_force(night, app):
+            plan.perhaps.add("lifts")
+            plan.maybe_lifted.append(app.appid)
+
+
+PLANS = {
+    "halt": plan_halt, "raise": plan_raise, "resume": plan_resume, "put": plan_put,
+    "back": plan_back,
+}
+
+
+def plan_of(night, call):
+    """What a call has to do, with nothing in its way."""
+    plan = Plan(now=night.load())
+    PLANS[call.word](night, call, plan)
+    plan.files = {n: text for n, text in plan.files.items() if night.files.get(n) != text}
+    files = night.files | plan.files
+    plan.then = load_of({n: text for n, text in files.items() if text is not None})
+    if call.word in ("raise", "resume") and plan.files and plan.then is None:
+        plan.stops.add("refused")
+    if call.word != "halt":
+        if any(it.is_damaged for it in night.steps):
+            plan.stops.add("record")
+        drifts(night, call, plan)
+        compares(night, call, plan)
+    if call.anyway:
+        plan.perhaps -= {"lifts", "lost", "drift"}
+    if plan.files and plan.undone is None:
+        before = {it: night.files.get(it) for it in plan.files}
+        number = max((it.number for it in night.steps), default=0) + 1
+        plan.step = Step(number, call.action(), call.appid, before, dict(plan.files), call.by,
+                         call.because)
+    return plan
