@@ -5,7 +5,7 @@ import re
 from checking.places import CRATES, HELP, ROOT
 
 ROLLOUT = ("command_words/src/program_rows.rt", "command_words/src/server_rows.rt")
-TOOLS = ("tool_words/src/manifest_rows.rt", "tool_words/src/rows.rt")
+TOOLS = ("tool_words/src/manifest_rows.rt", "tool_words/src/program_rows.rt")
 NAME = re.compile(r'^    name: "([a-z]+)",$', re.M)
 SHOWN = re.compile(r"^  ([a-z]+)  +[A-Z]", re.M)
 # A list of words: a pattern of the shell's, a set of Python's, or an array of Rust's.

@@ -58,7 +58,7 @@ fn next_number(places: u64, number: u64, wanted: u64) -> u64
     }
     let most = (places / 64).max(16);
     let above = wanted.saturating_add(NEAR) - number;
-    let ahead = above.saturating_mul(2).max(FEWEST).min(most);
+    let ahead = above.saturating_mul(2).max(wanted / 16).max(FEWEST).min(most);
     number.max(places.min(wanted.saturating_add(ahead)))
 }
 
