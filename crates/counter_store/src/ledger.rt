@@ -26,6 +26,8 @@ pub(crate) struct Ledger {
     writer: Writer,
     directory: Directory,
     places: Vec<u64>,
+    /// The numbers with which the cells opened.
+    opened: Vec<u64>,
     numbers: Vec<u64>,
     next: Vec<u64>,
 }
@@ -60,6 +62,7 @@ impl Ledger {
         ensures numbers { IfOk result (λ l. l.numbers ≡ numbers.items) }
     {
         let places = places(alloc, directory.arrays())?;
+        let opened = numbers.to_vec(alloc)?;
         let next = numbers.to_vec(alloc)?;
         let (kept, writer) = Kept::new(alloc)?;
         let mut ledger = Ledger {
@@ -67,6 +70,7 @@ impl Ledger {
             writer,
             directory,
             places,
+            opened,
             numbers,
             next,
         };
@@ -130,6 +134,7 @@ impl Ledger {
         plan(
             &self.kept,
             &self.places,
+            &self.opened,
             &self.numbers,
             present,
             &mut self.next,

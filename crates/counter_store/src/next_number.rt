@@ -16,7 +16,14 @@ const FEWEST: u64 = 8;
 
 /// Plans the next numbers of all cells: by what the workers want for cells with places, and their
 /// present values for all others.
-pub(crate) fn plan(kept: &Kept, places: &[u64], numbers: &[u64], present: &[u64], next: &mut [u64])
+pub(crate) fn plan(
+    kept: &Kept,
+    places: &[u64],
+    opened: &[u64],
+    numbers: &[u64],
+    present: &[u64],
+    next: &mut [u64],
+)
     requires places { length places.now ≡ 4096 }
     requires cells { AreCells numbers.now }
     requires present { AreCells present.now }
@@ -26,12 +33,13 @@ pub(crate) fn plan(kept: &Kept, places: &[u64], numbers: &[u64], present: &[u64]
 {
     for cell in 0..CellNo::COUNT {
         let at = usize::from(cell);
-        next[at] = next_of(kept, places, at, numbers[at], present[at]);
+        let opened = opened.get(at).copied().unwrap_or(0);
+        next[at] = next_of(kept, places, at, opened, numbers[at], present[at]);
     }
 }
 
 // The next number of a cell. Only 64-bit cells have places.
-fn next_of(kept: &Kept, places: &[u64], cell: usize, number: u64, present: u64) -> u64
+fn next_of(kept: &Kept, places: &[u64], cell: usize, opened: u64, number: u64, present: u64) -> u64
     requires places { length places.now ≡ 4096 }
     requires number { number < limit cell }
     requires present { present < limit cell }
@@ -41,15 +49,16 @@ fn next_of(kept: &Kept, places: &[u64], cell: usize, number: u64, present: u64) 
     ensures narrow { 4096 ≤ cell → result ≡ present }
 {
     if cell < CellNo::FIRST_NARROW as usize && places[cell] > 0 {
-        next_number(places[cell], number, kept.wanted(cell))
+        next_number(places[cell], opened, number, kept.wanted(cell))
     } else {
         present
     }
 }
 
-// The next number of a cell with these places: some places ahead of the wanted number, and none
-// above the quota. It stays as it is if no wanted number is near.
-fn next_number(places: u64, number: u64, wanted: u64) -> u64
+// The next number of a cell with these places, which opened with a number: ahead of the wanted
+// number by a quarter of what was taken since, or a few places, and never above the quota. It stays
+// as it is if no wanted number is near.
+fn next_number(places: u64, opened: u64, number: u64, wanted: u64) -> u64
     ensures not_lower { number ≤ result }
     ensures few { result ≤ max number (min places (wanted + max 16 (places / 64))) }
 {
@@ -58,7 +67,8 @@ fn next_number(places: u64, number: u64, wanted: u64) -> u64
     }
     let most = (places / 64).max(16);
     let above = wanted.saturating_add(NEAR) - number;
-    let ahead = above.saturating_mul(2).max(wanted / 16).max(FEWEST).min(most);
+    let used = wanted.saturating_sub(opened) / 4;
+    let ahead = above.saturating_mul(2).max(used).max(FEWEST).min(most);
     number.max(places.min(wanted.saturating_add(ahead)))
 }
 
