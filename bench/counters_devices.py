@@ -6,6 +6,7 @@ Each check is given the program and an empty folder, and returns what it counted
 """
 import contextlib
 import random
+import re
 import shutil
 import signal
 import time
@@ -81,10 +82,14 @@ def gone(place):
 
 
 def broken_and_mended(rig, breaks):
-    """A server whose folder breaks, twice; a start and an end while it is broken."""
+    """A server whose folder breaks, twice. The log has a line for each change."""
+    rig.options = ["--log"]
     with opened(rig.server()) as server:
         longest = max(withheld_while(rig, server, breaks(rig.place)) for _ in range(2))
         rig.stopped(server)
+        lines = re.findall(r'"kind":"counters"(.*)', server.said())
+    if ['"refusal":"K4 Store"' in it for it in lines] != [True, False] * 2:
+        raise Wrong(f"the log has {lines}")
     rig.exact()
     said = f"{rig.tally.offers} offers, {rig.tally.withheld} replies by 503, others within "
     return f"{said}{longest:.2f} s"

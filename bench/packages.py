@@ -121,8 +121,7 @@ def archives(folder):
     if files(place / archive[: -len(".tar.gz")]) != INSTALLED:
         return f"{files(place)}"
     called("dpkg-deb", "--extract", str(place / package), str(place / "deb"))
-    more = {f"lib/systemd/system/{it.name}" for it in DEPLOY.glob("*.service")}
-    more |= {"share/doc/rollout/copyright"}
+    more = {it.removeprefix("usr/") for it in UNITS} | {"share/doc/rollout/copyright"}
     if files(place / "deb" / "usr") != INSTALLED | more:
         return f"{files(place / 'deb')}"
 
