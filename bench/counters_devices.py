@@ -118,21 +118,23 @@ def full_disk(program, folder):
         return said
 
 
+def rig_in_folder(program, folder):
+    """A rig whose file is in a folder of its own."""
+    (folder / "place").mkdir()
+    return Rig(program, folder, QUOTA, folder / "place")
+
+
 def read_only_folder(program, folder):
-    place = folder / "place"
-    place.mkdir()
-    rig = Rig(program, folder, QUOTA, place)
+    rig = rig_in_folder(program, folder)
     said = broken_and_mended(rig, read_only)
     ends_broken(rig, read_only)
     return said
 
 
 def folder_gone(program, folder):
-    place = folder / "place"
-    place.mkdir()
-    rig = Rig(program, folder, QUOTA, place)
+    rig = rig_in_folder(program, folder)
     said = broken_and_mended(rig, gone)
-    shutil.rmtree(place)
+    shutil.rmtree(folder / "place")
     rig.refused("K4 Store")
     return said
 

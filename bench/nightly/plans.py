@@ -1,6 +1,6 @@
 """What a call of `stage` has to do, by docs/OPERATING.md and docs/DECISIONS.md: which files it
 replaces, which step it records, which halts it lifts, and which stops are right."""
-from dataclasses import dataclass, field, replace
+from dataclasses import dataclass, field
 
 from nightly.calls import Step
 from nightly.rules import KNOWN, NOTHING, load_of, loses, with_share
@@ -98,13 +98,17 @@ def compares(night, call, plan):
         plan.perhaps.add("lost")
 
 
-def halted_file(night, call, plan):
-    """The files of a halt, a raise or a resume, once their app is found."""
-    app = app_in(plan.now, call.appid)
+def loaded_file(night, call, plan):
+    """The app of a halt, a raise or a resume, once it is found."""
+    load = plan.now or night.load_without_faults()
+    if load is None:
+        plan.stops.add("refused")
+        return None
+    app = app_in(load, call.appid)
     if app is None:
         plan.stops.add("app")
         return None
-    if any(it.file == app.file and it is not app for it in plan.now.apps):
+    if any(it.file == app.file and it is not app for it in load.apps):
         if not call.anyway:
             plan.stops.add("shared")
     return app
@@ -112,22 +116,14 @@ def halted_file(night, call, plan):
 
 def plan_halt(night, call, plan):
     text = night.files.get("current.toml")
-    load = plan.now or night.load_without_faults()
-    if load is None:
-        plan.stops.add("refused")
-        return
-    if (app := halted_file(night, call, replace(plan, now=load))):
+    if (app := loaded_file(night, call, plan)):
         plan.files = {app.file: NOTHING[app.kind]}
         if app.file not in night.files or text is None:
             plan.perhaps.add("refused")
 
 
 def plan_raise(night, call, plan):
-    load = plan.now or night.load_without_faults()
-    if load is None:
-        plan.stops.add("refused")
-        return
-    if (app := halted_file(night, call, replace(plan, now=load))) is None:
+    if (app := loaded_file(night, call, plan)) is None:
         return
     text = night.files.get(app.file, b"")
     if plan.now is None:
@@ -143,11 +139,7 @@ def plan_raise(night, call, plan):
 
 
 def plan_resume(night, call, plan):
-    load = plan.now or night.load_without_faults()
-    if load is None:
-        plan.stops.add("refused")
-        return
-    if (app := halted_file(night, call, replace(plan, now=load))) is None:
+    if (app := loaded_file(night, call, plan)) is None:
         return
     if plan.now is None:
         plan.perhaps |= {"refused", "test"}
@@ -235,6 +227,8 @@ def plan_of(night, call):
     if call.word != "halt":
         if any(it.is_damaged for it in night.steps):
             plan.stops.add("record")
+            # Without that step a server that still serves it is another one.
+            plan.perhaps.add("other")
         drifts(night, call, plan)
         compares(night, call, plan)
     if call.anyway:
