@@ -1,7 +1,7 @@
 //! The store of a server's counters: their ledger, and the file to which it commits.
 
-ghost use Rattle.std.specs.Prelude.{◌≡◌, ◌≢◌, All, IfOk, IfSome, IsTrue, OnErr, Ok, false};
-ghost use Rattle.std.specs.Prelude.{map, string_bytes, true};
+ghost use Rattle.std.specs.Prelude.{◌≡◌, ◌≢◌, All, IfOk, IfSome, IsTrue, OnErr, OnOk, Ok};
+ghost use Rattle.std.specs.Prelude.{false, map, string_bytes, true};
 ghost use Rattle.std.specs.Arc.{arc_value};
 ghost use Rattle.cells.specs.Events.{AreCells};
 ghost use Rattle.ceilings.specs.Seats.{IsAt};
@@ -45,6 +45,8 @@ impl<F: KeptFile + Drop> CounterStore<F> {
         requires { AreCells values.items }
         ensures arrays { IfOk result (λ k. k.ledger.arrays ≡ directory) }
         ensures numbers { IfOk result (λ k. k.ledger.numbers ≡ values.items) }
+        ensures halted { IfOk result (λ k. k.halted ≡ halted) }
+        ensures file { IfOk result (λ k. k.file ≡ file) }
     {
         let ledger = Ledger::new(alloc, directory, values)?;
         Ok(CounterStore {
@@ -96,6 +98,8 @@ impl<F: KeptFile + Drop> CounterStore<F> {
     ) -> Result<(), AllocError>
         ensures numbers { self.new.ledger.numbers ≡ self.old.ledger.numbers }
         ensures ceilings { self.new.ledger.ceilings ≡ self.old.ledger.ceilings }
+        ensures halted { OnOk result (self.new.halted ≡ halted) }
+        ensures file { self.new.file ≡ self.old.file }
         ensures nothing { OnErr result (self.new ≡ self.old) }
     {
         self.ledger.learn(alloc, directory)?;
@@ -118,6 +122,7 @@ impl<F: KeptFile + Drop> CounterStore<F> {
         requires { AreCells present.now }
         ensures arrays { self.new.ledger.arrays ≡ self.old.ledger.arrays }
         ensures ceilings { self.new.ledger.ceilings ≡ self.old.ledger.ceilings }
+        ensures halted { self.new.halted ≡ self.old.halted }
         ensures next { result ≡ Ok true → AreNext (places_in self.old.ledger.arrays) present.now
             self.old.ledger.numbers self.new.ledger.numbers }
         ensures stored { IfOk result (λ is_new. IsTrue is_new
@@ -159,8 +164,9 @@ impl<F: KeptFile + Drop> CounterStore<F> {
     }
 
     /// The file, for the last commit of the server.
-    // open: which file; it is that of `new`.
-    pub fn into_file(self) -> F {
+    pub fn into_file(self) -> F
+        ensures { result ≡ self.file }
+    {
         let CounterStore {
             ledger: _ledger,
             halted: _halted,
