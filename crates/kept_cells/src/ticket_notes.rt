@@ -133,7 +133,8 @@ impl TicketNotes {
     {
         ceilings_grow();
         for cell in self.low..self.high {
-            if !is_cell_reached(kept, reader, cell, self.above[cell]) {
+            let above = self.above[cell];
+            if above > 0 && !is_cell_reached(kept, reader, cell, above) {
                 return false;
             }
         }
@@ -164,7 +165,7 @@ fn is_cell_reached(kept: &Kept, reader: &mut Reader, cell: usize, above: u64) ->
     if ceiling < above {
         return false;
     }
-    if above > 0 && ceiling - above < NEAR {
+    if ceiling - above < NEAR {
         kept.want(cell, above);
         kept.ring();
     }
