@@ -4,7 +4,7 @@ import re
 
 from checking.places import CRATES, HELP, ROOT
 
-ROLLOUT = ("command_words/src/program_rows.rt", "command_words/src/server_rows.rt")
+ROLLOUT = tuple(f"command_words/src/{it}_rows.rt" for it in ("brake", "program", "server"))
 TOOLS = ("tool_words/src/manifest_rows.rt", "tool_words/src/program_rows.rt")
 NAME = re.compile(r'^    name: "([a-z]+)",$', re.M)
 SHOWN = re.compile(r"^  ([a-z]+)  +[A-Z]", re.M)

@@ -11,7 +11,10 @@ Usage: rollout COMMAND ..
 Serve and operate:
   serve       Serve a manifest's releases until the operator stops the server
   load        Let a server load a manifest
+  halt        Let a server offer no release of an app, whatever is loaded
+  resume      Let a server serve a halted app again
   show        Show a server's generation and its apps
+  state       Show which load a server serves, and its halted apps
   cells       Show a server's counters that aren't 0
   stop        End a server
   stage       Halt an app, let more buckets in, go back, or put a manifest in place
