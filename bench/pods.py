@@ -4,12 +4,13 @@ and loads them, and kubernetes.yaml agrees with the image and the unit. No clust
 Also tests the alerts. Each check returns nothing, or what was wrong.
 """
 import io
+import json
 import os
 import re
 import subprocess
 import tarfile
 
-from hosts import DEPLOY, PATIENCE, ROOT, called, needs
+from hosts import DEPLOY, PATIENCE, ROOT, Skipped, called, needs
 from operating import BUILT, PORTS, Day
 
 QUOTAS = [1, 2, 7, 1000, 9223372036854775807]
@@ -90,6 +91,38 @@ def wrong_settings():
             return f"{it} isn't in both, or no program"
 
 
+def lost(given, known, path=""):
+    """The members of an object that aren't in another one, or are something else there."""
+    if isinstance(given, dict) and isinstance(known, dict):
+        for name in given:
+            yield from lost(given[name], known.get(name), f"{path}.{name}")
+    elif isinstance(given, list) and isinstance(known, list) and len(given) == len(known):
+        for place, (one, other) in enumerate(zip(given, known)):
+            yield from lost(one, other, f"{path}[{place}]")
+    elif given != known:
+        yield path
+
+
+def known_members(_folder):
+    """kubectl reads kubernetes.yaml by its own types, without a cluster, and prints it: a member that
+    they lack would be lost, and one of another kind refused."""
+    needs("kubectl")
+    try:
+        import yaml
+    except ImportError:
+        raise Skipped("no yaml")
+    changes = {"Service": ["selector", "tried=1"], "StatefulSet": ["image", "rollout=tried"]}
+    for given in yaml.safe_load_all((DEPLOY / "kubernetes.yaml").read_text()):
+        what, to = changes[given["kind"]]
+        words = ["kubectl", "set", what, "--local", "-f", "-", "-o", "json", to]
+        done = subprocess.run(words, input=json.dumps(given), capture_output=True, text=True)
+        if done.returncode:
+            return done.stderr
+        changed = [".spec.selector.app", ".spec.template.spec.containers[0].image"]
+        if found := {*lost(given, json.loads(done.stdout))}.difference(changed):
+            return f"kubectl doesn't know {found}"
+
+
 def pods(folder, program=BUILT):
     needs("tar")
     day = Day(folder / "pods", program)
@@ -106,4 +139,8 @@ def alerts(_folder):
             return text
 
 
-PODS = {"examples/deploy: pods": pods, "examples/deploy: alerts": alerts}
+PODS = {
+    "examples/deploy: pods": pods,
+    "examples/deploy: pods, by kubectl": known_members,
+    "examples/deploy: alerts": alerts,
+}

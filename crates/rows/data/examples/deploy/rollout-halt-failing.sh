@@ -18,8 +18,13 @@ failing=$(sed -n "s|^<section><h2><span class=\"name\">$app</span> <b class=\"ba
 touch "$halted"
 grep -qxF "$app $failing" "$halted" && exit 0
 
-# The server first, as that takes no file; then the files, which a restart reads.
-rollout halt "$app" --operator 8081
-rollout stage halt "$app" --operator 8081
+# The servers that answer: after an upgrade by rollout@9 that is the one at 8091.
+servers=
+for port in 8081 8091; do
+    ! rollout show --operator $port > /dev/null 2>&1 || servers="$servers --operator $port"
+done
+# At the servers first, as that takes no file; then in the files, which a restart reads.
+# shellcheck disable=SC2086
+rollout stage halt "$app" ${servers:---operator 8081}
 echo "$app $failing" >> "$halted"
 echo "$app is halted: a version of it fails, by $page"
