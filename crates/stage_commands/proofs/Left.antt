@@ -13,8 +13,8 @@ use Rattle.stage_commands.specs.Backs.{Undoes}
 use Rattle.stage_commands.specs.Taken.{AddAtMostOne, AreAllRead, IsLast, IsLeft, IsLeftUndone, IsNext}
 use Rattle.stage_commands.specs.Taken.{LeftBy, LeftByUndo, MayChange, as_undone}
 use Rattle.stage_commands.specs.Taken.{Performs, Takes, unchanged, partly_done, partly_undone}
-use Rattle.stage_commands.specs.declared.outcome.Stop.{Stop}
-use Rattle.stage_commands.specs.declared.outcome.Stop.TheVariants as stop
+use Rattle.stage_servers.specs.declared.outcome.Stop.{Stop}
+use Rattle.stage_servers.specs.declared.outcome.Stop.TheVariants as stop
 
 pub all_read : (records : KnownRecords) (recorded : RecordedSteps) → AreRecorded records recorded
     → recorded.unread.items ≡ [] → AreAllRead records recorded

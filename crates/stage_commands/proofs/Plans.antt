@@ -11,8 +11,9 @@ use Rattle.staging.specs.Halts.{Halts, halting_file}
 use Rattle.staging.specs.InForce.{is_in_force, last_halt}
 use Rattle.staging.specs.Raises.{IsRaised}
 use Rattle.stage_records.specs.Steps.{ReplacedFile, StagingStep}
-use Rattle.stage_commands.specs.Apps.{ReplacesBy, app_named}
-use Rattle.stage_commands.specs.Befores.{file_named}
+use Rattle.stage_commands.specs.Apps.{ReplacesBy}
+use Rattle.stage_servers.specs.Apps.{app_named}
+use Rattle.stage_servers.specs.Replaced.{file_named}
 use Rattle.stage_commands.specs.Resumes.{IsCut, PlansResume, PlansResumeOf, WasBefore}
 use Rattle.stage_commands.specs.Resumes.{replaces_after}
 use Rattle.stage_commands.specs.Stages.{PlansHalt, PlansHaltOf, PlansRaise, PlansRaiseOf}

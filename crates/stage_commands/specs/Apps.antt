@@ -1,16 +1,12 @@
 -- An app of the manifest in place, and a file that is replaced.
-use Rattle.std.specs.Prelude.{◌≡◌, ◌⊎◌, ℕ, List, find, Option, Some, None}
-use Rattle.std.specs.Str.{bytes_eq}
+use Rattle.std.specs.Prelude.{◌≡◌, ◌⊎◌, ℕ, List, Option, Some, None}
 use Rattle.bounded_files.specs.Files.{KnownFiles}
 use Rattle.load.specs.Opened.{IsCollected}
 use Rattle.load.specs.declared.opened.CollectedManifest.{CollectedManifest}
 use Rattle.load.specs.declared.sources.AppSources.{AppSources}
 use Rattle.stage_folder.specs.Folders.{GivesFile, KnownFolder, put_known}
 use Rattle.stage_records.specs.Steps.{ReplacedFile}
-
--- the app with this appid
-abbrev pub app_named : List AppSources → (appid : List ℕ) → Option AppSources
-app_named apps appid = find (λ app. bytes_eq app.entry.appid appid) apps
+use Rattle.stage_servers.specs.Apps.{app_named}
 
 -- the app with this appid of the manifest at a path
 pub record IsAppOf (known : KnownFiles) (path appid : List ℕ) (app : AppSources) : Type 0 where

@@ -3,7 +3,6 @@ pub mod Befores
 pub mod Compared
 pub mod Counters
 pub mod Taken
-pub mod Served
 pub mod Stages
 pub mod Resumes
 pub mod Puts

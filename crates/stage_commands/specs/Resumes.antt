@@ -13,7 +13,7 @@ use Rattle.stage_records.specs.declared.step.StepAction.TheVariants.{Resume}
 use Rattle.staging.specs.InForce.{is_in_force, last_halt}
 use Rattle.staging.specs.Raises.{IsRaised}
 use Rattle.stage_commands.specs.Apps.{IsAppOf, Replaces, ReplacesBy}
-use Rattle.stage_commands.specs.Befores.{file_named}
+use Rattle.stage_servers.specs.Replaced.{file_named}
 use Rattle.stage_commands.specs.Taken.{AreAllRead, IsTaken}
 
 -- a step of a greater number, which isn't undone, replaced the file of this name

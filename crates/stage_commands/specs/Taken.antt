@@ -7,8 +7,8 @@ use Rattle.stage_folder.specs.Steps.{has_distinct_names, undone}
 use Rattle.stage_folder.specs.declared.records.RecordedSteps.{RecordedSteps}
 use Rattle.stage_records.specs.Steps.{ReplacedFile, StagingStep, last_step}
 use Rattle.stage_records.specs.declared.step.StepAction.{StepAction}
-use Rattle.stage_commands.specs.declared.outcome.Stop.{Stop}
-use Rattle.stage_commands.specs.declared.outcome.Stop.TheVariants as stop
+use Rattle.stage_servers.specs.declared.outcome.Stop.{Stop}
+use Rattle.stage_servers.specs.declared.outcome.Stop.TheVariants as stop
 
 -- all records are read, and each is a step's
 pub record AreAllRead (records : KnownRecords) (recorded : RecordedSteps) : Type 0 where

@@ -6,21 +6,16 @@ ghost use Rattle.stage_commands.specs.Taken.{LeftBy};
 
 use crate::app_halts::halt;
 use crate::backs::go_back;
-use crate::drift::stop_if_drifted;
-use crate::history::push_history;
-use crate::loads::load_all;
-use crate::options::{StageCall, StageOptions};
-use crate::outcome::{Lines, StageOutcome, Stop};
 use crate::puts::put;
 use crate::raises::raise;
 use crate::resumes::resume;
-use crate::server_halts::{apps_halted, apps_lifted};
-use crate::serves::Surveyed;
-use crate::status::push_status;
-use crate::survey::survey;
 use bounded_files::Disk;
 use stage_folder::StageFolder;
 use stage_records::StageAction;
+use stage_servers::{
+    Lines, StageCall, StageOptions, StageOutcome, Stop, Surveyed, apps_halted, apps_lifted,
+    load_all, push_history, push_status, stop_if_drifted, survey,
+};
 use std::alloc::AllocError;
 use std::net::{Net, TcpStream};
 use std::rt::Files;

@@ -4,13 +4,10 @@ ghost use Rattle.std.specs.Prelude.{◌≡◌, IfOk, Some, option_map, option_to
 ghost use Rattle.stage_commands.specs.Apps as specs;
 ghost use Rattle.stage_folder.specs.Folders.{GivesFile, KnownFolder};
 
-use crate::collected::app_named;
-use crate::options::StageCall;
-use crate::outcome::{Lines, Stop};
 use crate::stop_texts::{no_app, one_file};
-use attrs::Text;
 use load::AppSources;
 use stage_records::ReplacedFile;
+use stage_servers::{Lines, StageCall, Stop, app_named, replaced_file};
 use std::alloc::{AllocError, Global};
 use std::fs;
 use std::os::unix::fs::MetadataExt;
@@ -104,27 +101,7 @@ fn has_bytes(before: &Option<Vec<u8>>, bytes: &[u8]) -> bool
     }
 }
 
-/// What replaces a file that had these bytes, if there was one.
-pub(crate) fn replaced_file(
-    alloc: Global,
-    name: &str,
-    before: Option<Vec<u8>>,
-    bytes: &[u8],
-) -> Result<ReplacedFile, AllocError>
-    ensures name { IfOk result (λ file. file.name ≡ name.now) }
-    ensures before { IfOk result (λ file. file.before ≡ option_map (λ b. b.items) before) }
-    ensures after { IfOk result (λ file. file.after ≡ bytes.now) }
-{
-    let name = Text::new(String::from_str(alloc, name)?);
-    let after = Vec::from_slice(alloc, bytes)?;
-    Ok(ReplacedFile {
-        name,
-        before,
-        after,
-    })
-}
-
-/// The same; nothing if the file has the new bytes.
+/// What replaces a file that had these bytes, if there was one; nothing if it has the new ones.
 pub(crate) fn replacement(
     alloc: Global,
     name: &str,

@@ -8,16 +8,13 @@ ghost use Rattle.stage_commands.specs.Stages.{HasHalted, PlansHalt, PlansHaltOf}
 ghost use Rattle.stage_commands.specs.Taken.{LeftBy};
 
 use crate::app_file::{app_to_change, replacement};
-use crate::collected::collected_at;
-use crate::options::StageCall;
-use crate::outcome::{Lines, Stop};
 use crate::steps::{number_in, owned_text};
-use crate::stop_texts::in_folder;
 use crate::taking::take_file;
 use bounded_files::Disk;
 use load::{AppSources, CollectedManifest};
 use stage_folder::StageFolder;
 use stage_records::{ReplacedFile, StepAction};
+use stage_servers::{Lines, StageCall, Stop, collected_at, in_folder};
 use staging::halting_file;
 use std::alloc::Global;
 use std::rt::Files;

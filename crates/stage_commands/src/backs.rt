@@ -10,15 +10,13 @@ ghost use Rattle.stage_folder.specs.Recorded.{IsRecorded, MayBeRecorded};
 ghost use Rattle.stage_folder.specs.Steps.{edited_place, undone};
 ghost use Rattle.stage_records.specs.Steps.{last_step};
 
-use crate::options::StageCall;
-use crate::outcome::{Lines, Stop};
 use crate::restored::compare_restored;
-use crate::step_lines::push_step;
 use crate::steps::{name_at, read_steps};
-use crate::stop_texts::{EDITED, NOTHING_TO_UNDO, not_noted, not_undone, refusal_of, refused};
+use crate::stop_texts::{EDITED, NOTHING_TO_UNDO, not_noted, not_undone};
 use bounded_files::Disk;
 use stage_folder::{StageFolder, StepFault, UndoFault, undo, write_record};
 use stage_records::{StagingStep, last_step};
+use stage_servers::{Lines, StageCall, Stop, push_step, refusal_of, refused};
 use std::alloc::Global;
 use std::net::{Net, TcpStream};
 use std::time::Clock;

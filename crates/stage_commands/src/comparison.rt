@@ -4,29 +4,17 @@ ghost use Rattle.manifest_diff.specs.Opened.{AreKept};
 ghost use Rattle.stage_commands.specs.Compared.{AreAllJudged};
 
 use crate::counters::least_counters;
-use crate::options::StageCall;
-use crate::outcome::{Lines, Stop};
 use crate::served_rows::push_all_rows;
-use crate::stop_texts::{LOSES, not_compared, refused};
+use crate::stop_texts::{LOSES, not_compared};
 use attrs::Elapsed;
 use bounded_files::Disk;
 use cell_assignments::{CellAssignment, read_assignments};
 use load::JudgedManifest;
 use manifest_diff::{DiffOptions, DiffOutput, OpenedBoth, diff_manifests};
 use printing::TextBuffer;
+use stage_servers::{Lines, StageCall, Stop, now_of, refused};
 use std::net::{Net, TcpStream};
-use std::time::{Clock, SystemTime, UNIX_EPOCH};
-
-/// The second by the clock; 0 if it can't be read.
-pub(crate) fn now_of<R: Clock>(rt: &R) -> u64 {
-    let Ok(now) = SystemTime::now(rt) else {
-        return 0;
-    };
-    match now.duration_since(UNIX_EPOCH) {
-        Ok(since) => since.as_secs(),
-        Err(_) => 0,
-    }
-}
+use std::time::Clock;
 
 // Today's number.
 fn today<R: Clock>(rt: &R) -> u32 {

@@ -6,14 +6,12 @@
 ghost use Rattle.std.specs.Prelude.{◌≡◌};
 ghost use Rattle.stage_commands.specs.Counters as specs;
 
-use crate::options::StageCall;
-use crate::outcome::{Lines, Stop};
-use crate::quota_lines::push_quotas;
 use cell_assignments::{CellAssignment, read_assignments};
 use declarations::ArrayDeclaration;
 use operator::ask_server;
 use operator_request::OperatorRequest;
 use printing::TextBuffer;
+use stage_servers::{Lines, StageCall, Stop, push_quotas};
 use std::alloc::{AllocError, Global};
 use std::net::{Net, TcpStream};
 

@@ -3,13 +3,10 @@
 
 use crate::actions::stage_on;
 use crate::locking::{end_work, lock_for, note_work};
-use crate::options::StageOptions;
-use crate::outcome::{Lines, StageOutcome};
-use crate::server_halts::{halt_again, halt_at_servers};
-use crate::stop_texts::in_folder;
 use bounded_files::Disk;
 use stage_folder::{DeviceFolder, StageFolder};
 use stage_records::StageAction;
+use stage_servers::{Lines, StageOptions, StageOutcome, halt_again, halt_at_servers, in_folder};
 use std::alloc::{AllocError, Global};
 use std::fs::File;
 use std::net::{Net, TcpStream};

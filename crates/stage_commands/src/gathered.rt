@@ -6,11 +6,10 @@ ghost use Rattle.stage_commands.specs.Befores as specs;
 ghost use Rattle.stage_commands.specs.Befores.{GivesBefore, IsGathered, RefusesBefore};
 ghost use Rattle.stage_commands.specs.Befores.{WasCollected, WasGathered};
 
-use crate::outcome::Stop;
-use crate::replaced_files::{bytes_of, file_named, sources_with};
 use bounded_files::{Disk, ResourceFault};
 use load::{CollectedManifest, LoadFault, PathFault, collect_manifest, manifest_bytes};
 use stage_records::ReplacedFile;
+use stage_servers::{Stop, bytes_of, file_named, sources_with};
 use std::alloc::Global;
 
 /// The name of the manifest in place.

@@ -2,8 +2,8 @@
 
 ghost use Rattle.std.specs.Prelude.{◌≡◌, None, OnOk, false, option_copied, true};
 
-use crate::outcome::{Lines, Stop};
 use crate::stop_texts::lifts;
+use stage_servers::{Lines, Stop};
 use std::alloc::Global;
 
 /// Refuses to lift a halt that is in force, unless `--anyway` is given.

@@ -3,14 +3,11 @@
 
 // No contract says what is printed or noted: bench/outside tests it.
 
-use crate::comparison::now_of;
-use crate::options::StageOptions;
-use crate::outcome::Stop;
-use crate::step_lines::time_of;
-use crate::stop_texts::{at_work, in_folder};
+use crate::stop_texts::at_work;
 use printing::TextBuffer;
 use stage_folder::{FolderFault, FolderNote, StageFolder, process_number};
 use stage_records::StageAction;
+use stage_servers::{StageOptions, Stop, in_folder, now_of, time_of};
 use std::alloc::{AllocError, Global};
 use std::time::{Clock, Duration};
 use std::{str, thread};

@@ -3,15 +3,13 @@
 ghost use Rattle.std.specs.Prelude.{IfOk};
 ghost use Rattle.stage_commands.specs.Compared.{AreAllJudged};
 
-use crate::collected::{judged, judged_at};
 use crate::comparison::compare;
-use crate::options::StageCall;
-use crate::outcome::{Lines, Stop};
-use crate::replaced_files::sources_with;
+use crate::judged::{judged, judged_at};
 use crate::stop_texts::next_refused;
 use bounded_files::Disk;
 use load::{CollectedManifest, JudgedManifest};
 use stage_records::ReplacedFile;
+use stage_servers::{Lines, StageCall, Stop, sources_with};
 use std::alloc::Global;
 use std::net::{Net, TcpStream};
 use std::slice;

@@ -6,13 +6,11 @@ ghost use Rattle.stage_commands.specs.Puts.{AddsAppFile, AddsFile, AreChangesTo,
 ghost use Rattle.stage_commands.specs.Puts.{AreFilesSoFar};
 ghost use Rattle.stage_folder.specs.Steps as specs;
 
-use crate::app_file::replaced_file;
-use crate::outcome::Stop;
-use crate::replaced_files::file_named;
-use crate::stop_texts::{TWO_CONTENTS, in_folder, refusal_of};
+use crate::stop_texts::TWO_CONTENTS;
 use load::{AppSources, whole_file};
 use stage_folder::StageFolder;
 use stage_records::ReplacedFile;
+use stage_servers::{Stop, file_named, in_folder, refusal_of, replaced_file};
 use std::alloc::{AllocError, Global};
 
 // The name of the manifest in place.

@@ -6,15 +6,14 @@ ghost use Rattle.stage_commands.specs.Backs.{UndoingLiftsNone, lifted_by_undoing
 ghost use Rattle.stage_commands.specs.Compared.{AreAllJudged};
 ghost use Rattle.staging.specs.InForce as in_force;
 
-use crate::collected::judged;
 use crate::comparison::compare;
 use crate::gathered::{collected_before, collected_now};
+use crate::judged::judged;
 use crate::lifting::stop_if_lifted;
-use crate::options::StageCall;
-use crate::outcome::{Lines, Stop};
 use bounded_files::Disk;
 use load::{CollectedManifest, JudgedManifest};
 use stage_records::{StagingStep, StepAction};
+use stage_servers::{Lines, StageCall, Stop};
 use staging::lifted_halt;
 use std::alloc::Global;
 use std::net::{Net, TcpStream};

@@ -3,19 +3,18 @@
 
 ghost use Rattle.std.specs.Prelude.{◌≡◌, IfOk, is_some};
 ghost use Rattle.std.specs.List.{list_any};
-ghost use Rattle.stage_commands.specs.Befores.{file_named};
+ghost use Rattle.stage_servers.specs.Replaced.{file_named};
 ghost use Rattle.stage_commands.specs.Resumes as specs;
 ghost use Rattle.stage_commands.specs.Resumes.{IsCut, PlansResumeOf, WasBefore};
 
 use crate::app_file::replacement;
-use crate::outcome::Stop;
 use crate::raises::raised_text;
-use crate::replaced_files::file_named;
-use crate::stop_texts::{HAS_PROGRAM, NOT_HALTED, REPLACED_SINCE, in_folder, refusal_of};
+use crate::stop_texts::{HAS_PROGRAM, NOT_HALTED, REPLACED_SINCE};
 use load::AppSources;
 use manifest::ProgramSource;
 use stage_folder::StageFolder;
 use stage_records::{ReplacedFile, StagingStep};
+use stage_servers::{Stop, file_named, in_folder, refusal_of};
 use staging::last_halt;
 use std::alloc::Global;
 

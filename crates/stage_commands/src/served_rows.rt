@@ -5,16 +5,14 @@ ghost use Rattle.manifest_diff.specs.Opened.{AreKept};
 ghost use Rattle.stage_commands.specs.Compared.{AreAllJudged};
 
 use crate::comparison::push_comparison;
-use crate::drift::push_serves;
-use crate::earlier_files::{collected_as, collected_with};
-use crate::options::StageCall;
-use crate::outcome::{Lines, Stop};
 use crate::restored::judged_if;
-use crate::serves::{Serves, Surveyed};
 use bounded_files::Disk;
 use load::JudgedManifest;
 use manifest_diff::OpenedBoth;
 use stage_records::ReplacedFile;
+use stage_servers::{
+    Lines, Serves, StageCall, Stop, Surveyed, collected_as, collected_with, push_serves,
+};
 use std::net::{Net, TcpStream};
 use std::time::Clock;
 

@@ -4,15 +4,12 @@ ghost use Rattle.std.specs.Prelude.{◌≡◌, [], IfOk, None};
 ghost use Rattle.stage_commands.specs.Taken.{AreAllRead};
 ghost use Rattle.stage_folder.specs.Folders.{IsFree};
 
-use crate::outcome::Stop;
-use crate::stop_texts::{NO_NUMBER, in_folder, refused};
+use crate::stop_texts::NO_NUMBER;
 use attrs::Text;
 use stage_folder::{FolderFault, RecordedSteps, StageFolder, next_number, recorded_steps};
 use stage_records::ReplacedFile;
+use stage_servers::{RECORDS, Stop, in_folder, refused};
 use std::alloc::{AllocError, Global};
-
-/// The name of the folder of the records, as it is printed.
-pub(crate) const RECORDS: &str = ".stage";
 
 /// A text that a step owns.
 pub(crate) fn owned_text(alloc: Global, text: &str) -> Result<Text, AllocError>

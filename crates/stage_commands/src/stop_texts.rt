@@ -5,13 +5,12 @@
 
 ghost use Rattle.stage_commands.specs.Taken.{MayChange};
 
-use crate::outcome::Stop;
-use crate::steps::RECORDS;
-use load::{AppSources, LoadFault, PathFault};
+use load::{AppSources, LoadFault};
 use manifest_diff::DiffFault;
 use printing::TextBuffer;
 use rule_lang::RuleFault;
 use stage_folder::FolderFault;
+use stage_servers::{RECORDS, Stop, refusal, refusal_of};
 use staging::RaiseFault;
 use std::alloc::Global;
 
@@ -50,39 +49,7 @@ pub(crate) const NOT_HALTED: &str = " isn't halted by a step: if a server halts 
 pub(crate) const REPLACED_SINCE: &str = " was replaced again since the halt: put the rule that you \
     want in place";
 
-/// A refusal with this sentence.
-pub(crate) fn refusal(text: TextBuffer) -> Stop {
-    match text.finish() {
-        Ok(text) => Stop::Refused(text),
-        Err(_) => Stop::Memory,
-    }
-}
-
-/// A refusal in these words.
-pub(crate) fn refused(alloc: Global, sentence: &str) -> Stop {
-    let mut text = TextBuffer::new(alloc);
-    text.push(sentence);
-    refusal(text)
-}
-
-/// A refusal of something with this name: what follows the name in the sentence.
-pub(crate) fn refusal_of(alloc: Global, name: &str, rest: &str) -> Stop {
-    let mut text = TextBuffer::new(alloc);
-    text.push_printed("", name, rest);
-    refusal(text)
-}
-
 // ---- manifests
-
-/// A manifest can't be gathered, or can't be judged.
-pub(crate) fn no_manifest(alloc: Global, path: &str, fault: PathFault) -> Stop {
-    let mut text = TextBuffer::new(alloc);
-    text.push_printed("", path, " is refused (");
-    text.push_value(&fault);
-    text.push_printed("): call rollout check ", path, "");
-    drop(fault);
-    refusal(text)
-}
 
 /// The manifest with the new file is refused.
 pub(crate) fn next_refused(alloc: Global, fault: LoadFault) -> Stop {
@@ -162,17 +129,6 @@ pub(crate) fn not_raised(alloc: Global, file: &str, fault: RaiseFault) -> Stop {
 }
 
 // ---- the folder and its steps
-
-/// A folder, or one of its files, can't be read or written.
-pub(crate) fn in_folder(alloc: Global, name: &str, fault: FolderFault) -> Stop {
-    if fault == FolderFault::Memory {
-        return Stop::Memory;
-    }
-    let mut text = TextBuffer::new(alloc);
-    text.push_printed("", name, ": ");
-    text.push_value(&fault);
-    refusal(text)
-}
 
 /// Another call is at work in a folder: that of this note, if it isn't empty.
 pub(crate) fn at_work(alloc: Global, folder: &str, holder: &str) -> Stop {

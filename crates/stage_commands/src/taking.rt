@@ -10,14 +10,12 @@ ghost use Rattle.stage_folder.specs.Steps.{IsFoundBy, IsPartlyDone, done};
 ghost use Rattle.stage_folder.specs.Steps.{has_distinct_names};
 
 use crate::app_file::files_of;
-use crate::comparison::now_of;
-use crate::options::StageCall;
-use crate::outcome::{Lines, Stop};
-use crate::steps::{RECORDS, name_at, owned_some};
-use crate::stop_texts::{in_folder, stopped_at};
+use crate::steps::{name_at, owned_some};
+use crate::stop_texts::stopped_at;
 use printing::TextBuffer;
 use stage_folder::{StageFolder, StepFault, perform, write_record};
 use stage_records::{ReplacedFile, StagingStep, StepAction};
+use stage_servers::{Lines, RECORDS, StageCall, Stop, in_folder, now_of};
 use std::alloc::Global;
 use std::time::Clock;
 

@@ -1,5 +1,5 @@
 use Rattle.std.proofs.Common.{refl}
-use Rattle.stage_commands.specs.declared.outcome.Stop.TheVariants as stop
+use Rattle.stage_servers.specs.declared.outcome.Stop.TheVariants as stop
 use Rattle.stage_commands.proofs.Left.{unchanged_undo}
 use Rattle.stage_commands.proofs.backs.undo_unless_dry.Goals as goal
 

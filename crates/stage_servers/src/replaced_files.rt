@@ -1,13 +1,14 @@
 //! The files of a manifest, of which a step's are as before it, or as after it.
 
-ghost use Rattle.std.specs.Prelude.{◌≡◌, [], IfErr, IfOk, option_copied};
+ghost use Rattle.std.specs.Prelude.{◌≡◌, [], IfErr, IfOk, option_copied, option_map};
 ghost use Rattle.bounded_files.specs.Files.{KnownFiles};
 ghost use Rattle.load.specs.Folder.{files_in_folder};
 ghost use Rattle.load.specs.Load.{IsLoadFault};
 ghost use Rattle.load.specs.Sources.{AreSources};
-ghost use Rattle.stage_commands.specs.Befores.{bytes_then, files_then};
-ghost use Rattle.stage_commands.specs.Befores as specs;
+ghost use Rattle.stage_servers.specs.Replaced.{bytes_then, files_then};
+ghost use Rattle.stage_servers.specs.Replaced as specs;
 
+use attrs::Text;
 use bounded_files::{Disk, ResourceFault};
 use cells::Directory;
 use load::{Files, FolderFiles, LoadFault, Sources, collect_sources};
@@ -24,7 +25,7 @@ struct WithReplaced<'a, L> {
 }
 
 /// The file of this name.
-pub(crate) fn file_named<'a>(files: &'a [ReplacedFile], name: &str) -> Option<&'a ReplacedFile>
+pub fn file_named<'a>(files: &'a [ReplacedFile], name: &str) -> Option<&'a ReplacedFile>
     ensures { option_copied result ≡ specs.file_named files.now name.now }
 {
     let mut left = files;
@@ -39,11 +40,7 @@ pub(crate) fn file_named<'a>(files: &'a [ReplacedFile], name: &str) -> Option<&'
 
 /// The bytes of a file after its step, or else before it. A file that was missing counts as empty:
 /// a load refuses both.
-pub(crate) fn bytes_of(
-    alloc: Global,
-    file: &ReplacedFile,
-    is_after: bool,
-) -> Result<Vec<u8>, AllocError>
+pub fn bytes_of(alloc: Global, file: &ReplacedFile, is_after: bool) -> Result<Vec<u8>, AllocError>
     ensures { IfOk result (λ bytes. bytes.items ≡ bytes_then is_after file.now) }
 {
     if is_after {
@@ -56,13 +53,13 @@ pub(crate) fn bytes_of(
 }
 
 impl<'a, L: Files> Files for WithReplaced<'a, L> {
-    ghost use Rattle.stage_commands.specs.Befores.{files_then};
+    ghost use Rattle.stage_servers.specs.Replaced.{files_then};
 
     ghost known = { λ files. files_then files.is_after files.replaced.now (L.known files.files) };
 
     ghost failed = { λ files. L.failed files.files };
 
-    #[tactic(auto, using(crate::proofs::Then::gives_replaced, crate::proofs::Then::reads_other))]
+    #[tactic(auto, using(crate::proofs::Reads::gives_replaced, crate::proofs::Reads::reads_other))]
     fn bytes(&mut self, name: &str) -> Result<Vec<u8>, ResourceFault> {
         match file_named(self.replaced, name) {
             Some(file) => match bytes_of(self.alloc, file, self.is_after) {
@@ -80,8 +77,8 @@ impl<'a, L: Files> Files for WithReplaced<'a, L> {
 
 /// Gathers a manifest's bytes and the files next to its path, of which a step's are as after it,
 /// or else as before it. A fault doesn't depend on what the files have.
-#[tactic(auto, using(crate::proofs::Then::of_refusal))]
-pub(crate) fn sources_with<D: Disk>(
+#[tactic(auto, using(crate::proofs::Reads::of_refusal))]
+pub fn sources_with<D: Disk>(
     alloc: Global,
     disk: &D,
     manifest: &str,
@@ -105,4 +102,24 @@ pub(crate) fn sources_with<D: Disk>(
         Ok(sources) => Ok(sources),
         Err(refusal) => Err(refusal.into_fault()),
     }
+}
+
+/// What replaces a file that had these bytes, if there was one.
+pub fn replaced_file(
+    alloc: Global,
+    name: &str,
+    before: Option<Vec<u8>>,
+    bytes: &[u8],
+) -> Result<ReplacedFile, AllocError>
+    ensures name { IfOk result (λ file. file.name ≡ name.now) }
+    ensures before { IfOk result (λ file. file.before ≡ option_map (λ b. b.items) before) }
+    ensures after { IfOk result (λ file. file.after ≡ bytes.now) }
+{
+    let name = Text::new(String::from_str(alloc, name)?);
+    let after = Vec::from_slice(alloc, bytes)?;
+    Ok(ReplacedFile {
+        name,
+        before,
+        after,
+    })
 }

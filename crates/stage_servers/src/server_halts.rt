@@ -58,7 +58,8 @@ where
 
 /// Has each server halt the app of a halt, whatever the others do, unless no server is to load. No
 /// file is read for it. The lines then know at which ports the app is halted.
-pub(crate) fn halt_at_servers<R>(
+// open: what a server does, and what is printed: bench/outside.
+pub fn halt_at_servers<R>(
     rt: &R,
     action: &StageAction<'_>,
     options: &StageOptions<'_>,
@@ -82,7 +83,8 @@ where
 
 /// Has the servers that halted the app of a halt do so again, once the folder is locked: a call
 /// that was at work until then may have ended it. A server that still halts it changes nothing.
-pub(crate) fn halt_again<R>(rt: &R, action: &StageAction<'_>, lines: &Lines)
+// open: what a server does, and what is printed: bench/outside.
+pub fn halt_again<R>(rt: &R, action: &StageAction<'_>, lines: &Lines)
 where
     R: AllocGlobal + Net<Stream = TcpStream>,
 {
@@ -137,7 +139,8 @@ where
 
 /// The apps in place whose halts are surely in force, and may be lifted by this action; none if the
 /// records or the manifest can't be read. A halt and a raise lift none.
-pub(crate) fn apps_halted<R, D, F>(
+// open: which apps these are: bench/outside.
+pub fn apps_halted<R, D, F>(
     call: &StageCall<'_, R, D>,
     folder: &F,
     action: &StageAction<'_>,
@@ -162,7 +165,8 @@ where
 
 /// Those of these apps that the manifest in place surely offers; none if it can't be read. An app
 /// whose file couldn't be read isn't among them.
-pub(crate) fn apps_lifted<R, D>(call: &StageCall<'_, R, D>, before: Vec<String>) -> Vec<String>
+// open: which apps these are: bench/outside.
+pub fn apps_lifted<R, D>(call: &StageCall<'_, R, D>, before: Vec<String>) -> Vec<String>
 where
     R: AllocGlobal,
     D: Disk,

@@ -1,7 +1,7 @@
 //! What is printed of a stage, and why one stops.
 
 ghost use Rattle.std.specs.Prelude.{◌≡◌, IfOk, OnOk, false, true};
-ghost use Rattle.stage_commands.specs.declared.outcome.Stop.TheVariants.{Memory};
+ghost use Rattle.stage_servers.specs.declared.outcome.Stop.TheVariants.{Memory};
 
 use printing::TextBuffer;
 use std::alloc::{AllocError, Global};
@@ -18,15 +18,15 @@ pub struct StageOutcome {
 /// The lines that are printed so far, and the operator's ports of the servers at which an app is
 /// halted, though not yet in the files.
 #[derive(Drop)]
-pub(crate) struct Lines {
-    pub(crate) text: TextBuffer,
-    pub(crate) stderr: TextBuffer,
+pub struct Lines {
+    pub text: TextBuffer,
+    pub stderr: TextBuffer,
     halted_at: Vec<u16>,
 }
 
 /// Why nothing more is done.
 #[derive(Drop)]
-pub(crate) enum Stop {
+pub enum Stop {
     /// Before anything was changed, for this reason.
     Refused(String),
     /// After something may have been changed: what happened, and what to do.
@@ -45,7 +45,8 @@ impl From<AllocError> for Stop {
 
 impl Lines {
     /// No lines.
-    pub(crate) fn new(alloc: Global) -> Lines {
+    // open: that there are none: rows.
+    pub fn new(alloc: Global) -> Lines {
         Lines {
             text: TextBuffer::new(alloc),
             stderr: TextBuffer::new(alloc),
@@ -66,7 +67,8 @@ impl Lines {
     }
 
     /// Whether no piece of a line is left out.
-    pub(crate) fn are_complete(&self) -> bool {
+    // open: whether one is, which only an allocation decides.
+    pub fn are_complete(&self) -> bool {
         self.text.is_complete() && self.stderr.is_complete()
     }
 
@@ -108,7 +110,7 @@ impl Lines {
     }
 
     /// Continues in spite of a refusal, if `--anyway` is given.
-    pub(crate) fn go_on_if(&mut self, anyway: bool, refusal: Stop) -> Result<(), Stop>
+    pub fn go_on_if(&mut self, anyway: bool, refusal: Stop) -> Result<(), Stop>
         ensures { OnOk result (anyway ≡ true) }
     {
         if !anyway {
@@ -124,7 +126,7 @@ impl Lines {
     }
 
     /// The outcome, which has these lines, if they are complete.
-    pub(crate) fn into_outcome(self, is_done: bool) -> Result<StageOutcome, AllocError>
+    pub fn into_outcome(self, is_done: bool) -> Result<StageOutcome, AllocError>
         ensures { IfOk result (λ outcome. outcome.is_done ≡ is_done) }
     {
         let Lines { text, stderr, .. } = self;
@@ -142,7 +144,7 @@ impl Lines {
     }
 
     /// The outcome of an action that stopped.
-    pub(crate) fn into_stopped(self, stop: Stop) -> Result<StageOutcome, AllocError>
+    pub fn into_stopped(self, stop: Stop) -> Result<StageOutcome, AllocError>
         ensures { IfOk result (λ outcome. outcome.is_done ≡ false) }
     {
         let mut lines = self;

@@ -199,7 +199,8 @@ where
 }
 
 /// What each server serves, before this action; none if no server is to load.
-pub(crate) fn survey<R, D, F>(
+// open: what a server serves: bench/outside.
+pub fn survey<R, D, F>(
     call: &StageCall<'_, R, D>,
     folder: &F,
     action: &StageAction<'_>,

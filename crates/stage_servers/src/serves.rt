@@ -9,7 +9,7 @@ use std::alloc::{AllocError, Global};
 
 /// What a server serves, compared with the steps of the folder.
 #[derive(Drop)]
-pub(crate) enum Serves {
+pub enum Serves {
     /// What is in place.
     InPlace,
     /// What a step left, with this digest; step 0 is before the first one. `later` steps are done
@@ -34,11 +34,11 @@ pub(crate) enum Serves {
 
 /// The server at an operator's port.
 #[derive(Drop)]
-pub(crate) struct Surveyed {
-    pub(crate) port: u16,
-    pub(crate) serves: Serves,
+pub struct Surveyed {
+    pub port: u16,
+    pub serves: Serves,
     /// The apps that it halts by its own word.
-    pub(crate) halted: Vec<String>,
+    pub halted: Vec<String>,
 }
 
 impl Surveyed {

@@ -16,7 +16,8 @@ fn quota_of(arrays: &[ArrayDeclaration], cell: &CellAssignment<'_>) -> Option<u6
 
 /// Adds a line for each cell of an array with a quota: how many takes the server at an operator's
 /// port has counted, of how many that it grants.
-pub(crate) fn push_quotas(
+// open: what the lines are: rows.
+pub fn push_quotas(
     text: &mut TextBuffer,
     port: u16,
     arrays: &[ArrayDeclaration],

@@ -8,6 +8,7 @@ use moments::{NamedTime, time_text};
 use printing::TextBuffer;
 use stage_records::{StagingStep, StepAction};
 use std::alloc::{AllocError, Global};
+use std::time::{Clock, SystemTime, UNIX_EPOCH};
 
 /// The nanoseconds of a second.
 const NANOSECONDS: i128 = 1_000_000_000;
@@ -15,8 +16,21 @@ const NANOSECONDS: i128 = 1_000_000_000;
 /// The seconds of a day.
 const DAY: u64 = 86_400;
 
+/// The second by the clock; 0 if it can't be read.
+// open: what the clock says.
+pub fn now_of<R: Clock>(rt: &R) -> u64 {
+    let Ok(now) = SystemTime::now(rt) else {
+        return 0;
+    };
+    match now.duration_since(UNIX_EPOCH) {
+        Ok(since) => since.as_secs(),
+        Err(_) => 0,
+    }
+}
+
 /// A second since 1970 as a time by RFC 3339.
-pub(crate) fn time_of(alloc: Global, second: u64) -> Result<String, AllocError> {
+// open: what the text is: rows.
+pub fn time_of(alloc: Global, second: u64) -> Result<String, AllocError> {
     match Timestamp::from_nanosecond(second as i128 * NANOSECONDS) {
         Ok(time) => time_text(alloc, NamedTime::At(time), time),
         Err(_) => String::from_str(alloc, "at an unknown time"),
@@ -69,7 +83,8 @@ fn push_action(text: &mut TextBuffer, action: &StepAction) {
 }
 
 /// Adds a line of a step: a word, its number, its time, who took it, what it did, and why.
-pub(crate) fn push_step(alloc: Global, text: &mut TextBuffer, word: &str, step: &StagingStep) {
+// open: what the line is: rows.
+pub fn push_step(alloc: Global, text: &mut TextBuffer, word: &str, step: &StagingStep) {
     text.push(word);
     text.push_number(" step ", step.number as u64, " of ");
     match time_of(alloc, step.time) {

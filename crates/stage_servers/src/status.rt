@@ -3,17 +3,17 @@
 // No contract says what is printed: rows compare it, and bench/outside with servers.
 
 ghost use Rattle.std.specs.Prelude.{◌≡◌, true};
-ghost use Rattle.stage_commands.specs.Served.{IsKnown};
+ghost use Rattle.stage_servers.specs.Served.{IsKnown};
 
 use crate::app_status::{Standing, push_apps};
 use crate::collected::collected_at;
-use crate::comparison::now_of;
 use crate::history::{push_steps, push_unread, state_of};
 use crate::log_digest::push_log;
 use crate::options::StageCall;
 use crate::outcome::{Lines, Stop};
+use crate::refusals::RECORDS;
 use crate::servers::push_servers;
-use crate::steps::RECORDS;
+use crate::step_lines::now_of;
 use bounded_files::Disk;
 use printing::TextBuffer;
 use stage_folder::{FolderFault, RecordedSteps, StageFolder, recorded_steps};
@@ -132,7 +132,8 @@ fn steps_shown<F: StageFolder>(
 
 /// Prints the status of a folder, also if its steps can't be read. Returns whether each step is
 /// whole, and the servers are known to serve what is in place.
-pub(crate) fn push_status<R, D, F>(
+// open: what is printed, and what is returned: rows, and bench/outside.
+pub fn push_status<R, D, F>(
     call: &StageCall<'_, R, D>,
     folder: &F,
     lines: &mut Lines,

@@ -181,7 +181,8 @@ where
 
 /// Has each server load the manifest, whatever the others do, and then offer these apps again,
 /// whose halts are lifted. Returns whether all did.
-pub(crate) fn load_all<R, D, F>(
+// open: what a server does, and what is printed or noted: bench/outside.
+pub fn load_all<R, D, F>(
     call: &StageCall<'_, R, D>,
     folder: &F,
     action: &StageAction<'_>,

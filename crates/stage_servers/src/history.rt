@@ -4,10 +4,9 @@
 
 use crate::options::StageCall;
 use crate::outcome::{Lines, Stop};
+use crate::refusals::{RECORDS, in_folder};
 use crate::replaced_files::file_named;
 use crate::step_lines::push_step;
-use crate::steps::RECORDS;
-use crate::stop_texts::in_folder;
 use printing::TextBuffer;
 use stage_folder::{RecordedSteps, StageFolder, recorded_steps};
 use stage_records::{FileState, ReplacedFile, StagingStep, StepAction};
@@ -94,7 +93,8 @@ pub(crate) fn push_unread(numbers: &[u32], stderr: &mut TextBuffer) {
 }
 
 /// Prints all steps, or those of one app and all puts. Returns whether each record is a step's.
-pub(crate) fn push_history<R, D, F>(
+// open: what is printed, and what is returned: rows, and bench/outside.
+pub fn push_history<R, D, F>(
     call: &StageCall<'_, R, D>,
     folder: &F,
     appid: Option<&str>,

@@ -5,8 +5,8 @@
 use crate::collected::app_named;
 use crate::options::StageCall;
 use crate::outcome::{Lines, Stop};
+use crate::refusals::refusal;
 use crate::serves::{Serves, Surveyed};
-use crate::stop_texts::refusal;
 use load::AppSources;
 use printing::TextBuffer;
 use stage_folder::StageFolder;
@@ -26,7 +26,8 @@ fn edited_name<'a, F: StageFolder>(folder: &F, files: &'a [ReplacedFile]) -> Opt
 // ---- the words
 
 /// Adds what a server serves, if that isn't what is in place.
-pub(crate) fn push_serves(text: &mut TextBuffer, serves: &Serves) {
+// open: what the words are: rows, and bench/outside.
+pub fn push_serves(text: &mut TextBuffer, serves: &Serves) {
     match serves {
         Serves::Step { number: 0, .. } => text.push("what was there before the first step"),
         Serves::Step { number, .. } => text.push_number("step ", *number as u64, ""),
@@ -143,7 +144,8 @@ where
 /// is given, or `--other-server` if it has another app. A halt doesn't stop. A put continues after
 /// an edit of the files in place, since its rows begin with what is served. So does undoing a step
 /// that the server doesn't serve yet, as one that stopped in its middle.
-pub(crate) fn stop_if_drifted<R, D, F>(
+// open: when it stops: rows, and bench/outside.
+pub fn stop_if_drifted<R, D, F>(
     call: &StageCall<'_, R, D>,
     folder: &F,
     servers: &[Surveyed],

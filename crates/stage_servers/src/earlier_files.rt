@@ -5,10 +5,9 @@
 // the last of the former left. Nothing else is known to have changed.
 
 ghost use Rattle.std.specs.Prelude.{IfSome};
-ghost use Rattle.stage_commands.specs.Served.{HasDigest};
+ghost use Rattle.stage_servers.specs.Served.{HasDigest};
 
-use crate::app_file::replaced_file;
-use crate::replaced_files::{bytes_of, file_named, sources_with};
+use crate::replaced_files::{bytes_of, file_named, replaced_file, sources_with};
 use bounded_files::Disk;
 use load::{CollectedManifest, digest_of, manifest_bytes};
 use stage_records::{ReplacedFile, StagingStep};
@@ -73,7 +72,8 @@ fn current_bytes<D: Disk>(
 }
 
 /// The manifest in place with these files, gathered, if it can be.
-pub(crate) fn collected_with<D: Disk>(
+// open: whether it can be gathered, and that it has these files: rows.
+pub fn collected_with<D: Disk>(
     alloc: Global,
     disk: &D,
     manifest: &str,
@@ -91,7 +91,7 @@ pub(crate) fn collected_with<D: Disk>(
 }
 
 /// The same, if it has this digest, by which a server names what it was loaded with.
-pub(crate) fn collected_as<D: Disk>(
+pub fn collected_as<D: Disk>(
     alloc: Global,
     disk: &D,
     manifest: &str,

@@ -30,7 +30,8 @@ const DEFAULT_PORTS: [u16; 1] = [8081];
 
 impl<'a> StageOptions<'a> {
     /// The operator's ports of the servers.
-    pub(crate) fn ports(&self) -> &[u16] {
+    // open: which these are: rows.
+    pub fn ports(&self) -> &[u16] {
         if self.operators.is_empty() {
             return &DEFAULT_PORTS;
         }
@@ -40,12 +41,12 @@ impl<'a> StageOptions<'a> {
 
 /// One call of `stage`: what it works with besides the folder.
 #[derive(Drop)]
-pub(crate) struct StageCall<'a, R, D> {
-    pub(crate) rt: &'a R,
-    pub(crate) disk: &'a D,
+pub struct StageCall<'a, R, D> {
+    pub rt: &'a R,
+    pub disk: &'a D,
     /// The path of the manifest in place.
-    pub(crate) manifest: &'a str,
-    pub(crate) options: &'a StageOptions<'a>,
+    pub manifest: &'a str,
+    pub options: &'a StageOptions<'a>,
     /// What each server served before; empty if no server is to load.
-    pub(crate) servers: &'a [Surveyed],
+    pub servers: &'a [Surveyed],
 }

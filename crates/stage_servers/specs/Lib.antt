@@ -1,0 +1,3 @@
+pub mod Apps
+pub mod Replaced
+pub mod Served

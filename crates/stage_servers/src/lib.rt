@@ -1,0 +1,55 @@
+//! What `stage` finds and has done at the servers of a folder: what each serves, its halts and its
+//! loads; and what it prints of the folder: the status and the history.
+//!
+//! See docs/OPERATING.md.
+#![tactic(auto)]
+
+// How it works. A halt is sent to the servers before a file is read (`server_halts.rt`). Each
+// server's state is compared with the recorded steps (`survey.rt`), by the digest of what a step
+// left (`earlier_files.rt`). An action but a halt stops if a server serves something else than is
+// in place (`drift.rt`). Once the files are changed, each server loads the manifest (`loads.rt`).
+// Its reply is noted (`load_notes.rt`), by which a status knows what an older server serves
+// (`servers.rt`).
+//
+// A server's replies are its own. What is known of files is what `load` gathers.
+
+mod app_status;
+mod collected;
+mod digest_line;
+mod drift;
+mod earlier_files;
+mod history;
+mod load_notes;
+mod loads;
+mod log_digest;
+mod options;
+mod outcome;
+mod quota_lines;
+mod refusals;
+mod removed_apps;
+mod replaced_files;
+mod served;
+mod server_halts;
+mod server_state;
+mod servers;
+mod serves;
+mod shares;
+mod status;
+mod step_lines;
+mod survey;
+
+pub use collected::{app_named, collected_at};
+pub use drift::{push_serves, stop_if_drifted};
+pub use earlier_files::{collected_as, collected_with};
+pub use history::push_history;
+pub use loads::load_all;
+pub use options::{StageCall, StageOptions};
+pub use outcome::{Lines, StageOutcome, Stop};
+pub use quota_lines::push_quotas;
+pub use refusals::{RECORDS, in_folder, no_manifest, refusal, refusal_of, refused};
+pub use replaced_files::{bytes_of, file_named, replaced_file, sources_with};
+pub use server_halts::{apps_halted, apps_lifted, halt_again, halt_at_servers};
+pub use serves::{Serves, Surveyed};
+pub use status::push_status;
+pub use step_lines::{now_of, push_step, time_of};
+pub use survey::survey;
