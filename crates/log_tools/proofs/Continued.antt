@@ -1,19 +1,19 @@
 -- A report that continues from a state.
-use Rattle.std.proofs.Common.{◌≡◌, ℕ, List, Option, None}
+use Rattle.std.proofs.Common.{ℕ, List, Option, None}
 use Rattle.report.specs.declared.counting.Report.{Report}
 use Rattle.report.specs.declared.metrics.MetricKind.TheVariants.{Counter}
 use Rattle.report.specs.declared.window.Window.{Window}
 use Rattle.report_state.specs.Places.{AreApart, KeepsApart, LogPlace}
 use Rattle.report_state.specs.States.{SpellsCounts}
 use Rattle.log_tools.specs.Continued.{BeginsFrom, Continues, HasContinued}
-use Rattle.log_tools.specs.Reports.{CountsLogs, text_by}
+use Rattle.log_tools.specs.Reports.{CountsLogs, IsTextBy}
 use Rattle.log_tools.specs.declared.report_form.ReportForm.{ReportForm}
 
 abbrev pub all_times : Window
 all_times = record { since = None; until = None }
 
 pub continues : (n : ℕ) (form : ReportForm) (begun report : Report) (text state : List ℕ)
-    → CountsLogs all_times n begun report → text ≡ text_by form Counter report
+    → CountsLogs all_times n begun report → IsTextBy form Counter report text
     → SpellsCounts state report → (old new : List LogPlace) → KeepsApart old new
     → Continues n form begun report old text
 continues n form begun report text state reads text_is spelled old new kept = record {

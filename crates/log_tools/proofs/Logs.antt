@@ -6,8 +6,8 @@ use Rattle.std.specs.Option.{option_copied}
 use Rattle.std.proofs.lemmas.Grind.{flat_map-append}
 use Rattle.std.proofs.lemmas.List.{length-append}
 use Rattle.std.proofs.lemmas.List.Concat.{flat_map-cons}
-use Rattle.log_tools.specs.Reports.{CountsLogs, HasReported, IsTimeByClock, IsTimeIf, kind_of}
-use Rattle.log_tools.specs.Reports.{text_by}
+use Rattle.log_tools.specs.Reports.{CountsLogs, HasReported, IsTextBy, IsTimeByClock}
+use Rattle.log_tools.specs.Reports.{IsTimeIf, kind_of}
 use Rattle.log_tools.specs.declared.report_form.ReportForm.{ReportForm}
 use Rattle.log_tools.specs.declared.reporting.ReportOutput.{ReportOutput}
 use Rattle.jiff_core.specs.declared.timestamp.Timestamp.{Timestamp}
@@ -71,7 +71,7 @@ pub has_reported : (n : ℕ) (since until : Option NamedTime) (form : ReportForm
     (pictured paged : Bool) (output : ReportOutput) (window : Window) (start last : Report)
     → IsTimeIf since (option_copied window.since) → IsTimeIf until (option_copied window.until)
     → Counts window [] (pictured || paged) start → CountsLogs window n start last
-    → string_bytes output.text ≡ text_by form (kind_of since until) last
+    → IsTextBy form (kind_of since until) last (string_bytes output.text)
     → HasPicture pictured output.picture → HasPage paged output.page
     → HasReported n since until form pictured paged output
 has_reported n since until form pictured paged output window start last from to none reads text

@@ -9,7 +9,7 @@ use Rattle.report.specs.declared.metrics.MetricKind.TheVariants.{Counter}
 use Rattle.report.specs.declared.window.Window.{Window}
 use Rattle.report_state.specs.Places.{AreApart, KeepsApart, LogPlace}
 use Rattle.report_state.specs.States.{SpellsCounts}
-use Rattle.log_tools.specs.Reports.{IsWindowOf, text_by}
+use Rattle.log_tools.specs.Reports.{IsTextBy, IsWindowOf}
 use Rattle.log_tools.specs.declared.report_form.ReportForm.{ReportForm}
 
 -- the counts that the state's bytes spell; without a state, no line is counted
@@ -26,7 +26,7 @@ pub record Continues (n : ℕ) (form : ReportForm) (begun report : Report) (old 
   pub parts : List (List ℕ)
   pub each : length parts ≡ n
   pub counted : CountsLines window (flat_map lines_in parts) begun report
-  pub text_is : text ≡ text_by form Counter report
+  pub text_is : IsTextBy form Counter report text
   pub new_state : List ℕ
   pub spelled : SpellsCounts new_state report
   pub new : List LogPlace

@@ -1,7 +1,7 @@
 -- A report on logs. Nothing is known about the files of a device, so each log has some bytes. Nor
 -- is anything known about its clock, so how long ago something is depends on some present time.
 use Rattle.std.specs.Prelude.{◌≡◌, ℕ, List, Option, Some, None, length, flat_map, Bool, ◌||◌}
-use Rattle.std.specs.Prelude.{if◌then◌else◌, string_bytes}
+use Rattle.std.specs.Prelude.{string_bytes, true}
 use Rattle.std.specs.Option.{option_copied}
 use Rattle.jiff_core.specs.declared.timestamp.Timestamp.{Timestamp}
 use Rattle.moments.specs.LogTimes.{IsTextOf}
@@ -10,7 +10,6 @@ use Rattle.report.specs.Counts.{Counts}
 use Rattle.report.specs.Exposition.{exposition}
 use Rattle.report.specs.Lines.{lines_in}
 use Rattle.report.specs.Reading.{CountsLines}
-use Rattle.report.specs.Screen.{screen}
 use Rattle.report.specs.declared.counting.Report.{Report}
 use Rattle.report.specs.declared.metrics.MetricKind.{MetricKind}
 use Rattle.report.specs.declared.metrics.MetricKind.TheVariants.{Counter, Gauge}
@@ -41,10 +40,9 @@ pub record CountsLogs (window : Window) (n : ℕ) (old new : Report) : Type 0 wh
   pub each : length logs ≡ n
   pub counted : CountsLines window (flat_map lines_in logs) old new
 
--- the text: as a screen, or in Prometheus's format
-abbrev pub text_by : ReportForm → MetricKind → Report → List ℕ
-text_by form kind report =
-    if form.prometheus then exposition kind report else screen form.heads report
+-- the text in Prometheus's format has these counts; no clause says how a screen looks
+abbrev pub IsTextBy : ReportForm → MetricKind → Report → (text : List ℕ) → Type 0
+IsTextBy form kind report text = form.prometheus ≡ true → text ≡ exposition kind report
 
 -- in a window of time the counts go up and down
 abbrev pub kind_of : (since until : Option NamedTime) → MetricKind
@@ -60,6 +58,6 @@ pub record HasReported (n : ℕ) (since until : Option NamedTime) (form : Report
   pub each : length logs ≡ n
   pub report : Report
   pub counted : Counts window (flat_map lines_in logs) (pictured || paged) report
-  pub text_is : string_bytes output.text ≡ text_by form (kind_of since until) report
+  pub text_is : IsTextBy form (kind_of since until) report (string_bytes output.text)
   pub picture : HasPicture pictured output.picture
   pub page : HasPage paged output.page

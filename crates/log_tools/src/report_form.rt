@@ -1,6 +1,6 @@
 //! How a report is printed.
 
-ghost use Rattle.std.specs.Prelude.{◌≡◌, IfOk};
+ghost use Rattle.std.specs.Prelude.{IfOk};
 ghost use Rattle.std.specs.String.{string_bytes};
 ghost use Rattle.log_tools.specs.Reports as specs;
 
@@ -23,7 +23,7 @@ pub(crate) fn text_by(
     kind: MetricKind,
     report: &Report,
 ) -> Result<String, AllocError>
-    ensures { IfOk result (λ text. string_bytes text ≡ specs.text_by form kind report.now) }
+    ensures { IfOk result (λ text. specs.IsTextBy form kind report.now (string_bytes text)) }
 {
     if form.prometheus {
         exposition_text(alloc, kind, report)

@@ -4,7 +4,7 @@ ghost use Rattle.std.specs.Prelude.{◌≡◌, ◌||◌, [], IfOk, OnOk, is_some
 ghost use Rattle.std.specs.Option.{option_copied};
 ghost use Rattle.std.specs.String.{string_bytes};
 ghost use Rattle.report.specs.Counts.{Counts};
-ghost use Rattle.log_tools.specs.Reports.{CountsLogs, HasReported, IsTimeIf, kind_of, text_by};
+ghost use Rattle.log_tools.specs.Reports.{CountsLogs, HasReported, IsTextBy, IsTimeIf, kind_of};
 ghost use Rattle.markup.specs.WellFormed.{HasPicture};
 ghost use Rattle.report_page.specs.Pages.{HasPage};
 
@@ -141,7 +141,7 @@ fn output_of(
     report: &Report,
 ) -> Result<ReportOutput, AllocError>
     ensures text { IfOk result
-        (λ output. string_bytes output.text ≡ text_by form kind report.now) }
+        (λ output. IsTextBy form kind report.now (string_bytes output.text)) }
     ensures picture { IfOk result (λ output. HasPicture drawn.picture output.picture) }
     ensures page { IfOk result (λ output. HasPage drawn.page output.page) }
 {

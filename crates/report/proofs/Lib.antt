@@ -1,6 +1,5 @@
 pub mod Counted
 pub mod Loops
 pub mod Read
-pub mod Rising
 pub mod Tallied
 pub mod Written

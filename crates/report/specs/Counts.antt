@@ -3,7 +3,7 @@ use Rattle.std.specs.Prelude.{◌≡◌, ℕ, ◌+◌, List, [], ◌∷◌, code
 use Rattle.std.specs.Prelude.{Bool, Option, Some, None, is_some, is_none, unwrap_or}
 use Rattle.std.specs.Prelude.{if◌then◌else◌}
 use Rattle.report.specs.Names.{names_if}
-use Rattle.report.specs.Questions.{AreTallies, names_of}
+use Rattle.report.specs.Questions.{AreTallies, member_of, names_of, tally_named}
 use Rattle.report.specs.Tallies.{RowName, capped, Notes}
 use Rattle.report.specs.Members.{LineMembers}
 use Rattle.report.specs.Windows.{event_in, event_in_window, is_kind}
@@ -56,6 +56,10 @@ module _ (window : Window) (lines : List (List ℕ)) where
     pub offers_left_out : r.offers_left_out ≡ total offers_left_out_in
     pub tallies :
         AreTallies (λ question. all_names (names_of drawn question)) QUESTIONS r.tallies.items
+
+-- the table of a question
+abbrev pub tally_of : Question → Report → Option Tally
+tally_of question r = tally_named (member_of question) QUESTIONS r.tallies.items
 
 -- ---- one more line
 

@@ -1,11 +1,10 @@
 -- A report in the text format of Prometheus: for each metric its help and type, and then its
 -- samples, a line each, with labels.
 use Rattle.std.specs.Prelude.{ℕ, List, [], ◌∷◌, ◌++◌, codes, decimal, encode_utf8, string_bytes}
-use Rattle.std.specs.Prelude.{length, ◌==◌, if◌then◌else◌}
+use Rattle.std.specs.Prelude.{Bool, length, ◌==◌, if◌then◌else◌}
 use Rattle.std.specs.List.{after_first, before_first, flat_map}
-use Rattle.std.specs.Str.{chars}
+use Rattle.std.specs.Str.{byte, chars}
 use Rattle.report.specs.Questions.{help_of, labels_of, metric_of}
-use Rattle.report.specs.Screen.{Rows, is_tab}
 use Rattle.report.specs.declared.counting.Report.{Report}
 use Rattle.report.specs.declared.question.LineQuestion.TheVariants.{Kind}
 use Rattle.report.specs.declared.question.Question.{Question}
@@ -14,6 +13,7 @@ use Rattle.report.specs.declared.question.TheConstants.{QUESTIONS}
 use Rattle.report.specs.declared.metrics.MetricKind.{MetricKind}
 use Rattle.report.specs.declared.metrics.MetricKind.TheVariants.{Counter, Gauge}
 use Rattle.report.specs.declared.tally.Tally.{Tally}
+use Rattle.report.specs.Tallies.{Rows}
 
 -- a value's quotes and backslashes are escaped; a name has no line feed
 abbrev pub value_char : ℕ → List ℕ
@@ -26,6 +26,9 @@ value_text text = flat_map value_char (chars text)
 -- a label with its value
 abbrev pub label : List ℕ → List ℕ → List ℕ
 label name value = name ++ codes "=\"" ++ value_text value ++ codes "\""
+
+abbrev pub is_tab : ℕ → Bool
+is_tab b = b == byte "\t"
 
 -- the first text of a name, and the rest
 abbrev pub first : List ℕ → List ℕ

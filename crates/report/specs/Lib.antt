@@ -10,6 +10,5 @@ pub mod Courses
 pub mod Questions
 pub mod Counts
 pub mod Reading
-pub mod Screen
 pub mod Exposition
 pub mod Counters

@@ -66,24 +66,7 @@ tally_named name (question ∷ questions) (t ∷ tallies) =
     else tally_named name questions tallies
 tally_named name questions tallies = None
 
--- ---- the texts of a table
-
--- its title on a screen, where some tables aren't shown
-abbrev pub title_of : Question → List ℕ
-title_of (Line of_line.Kind) = codes "kinds of lines"
-title_of (Line of_line.Refusal) = codes "refusals"
-title_of (Line of_line.Load) = codes "loads"
-title_of (App of_app.UpdateCheck) = codes "asks"
-title_of (App of_app.Offered) = codes "offers"
-title_of (App of_app.Unoffered) = codes "no update"
-title_of (App of_app.Hour) = codes "asks by hour and version"
-title_of (App of_app.Bucket) = codes "buckets"
-title_of (App of_app.Unknown) = codes "unknown apps"
-title_of (App of_app.WithoutCohort) = codes "without a cohort"
-title_of (App of_app.WithoutId) = codes "without a request id"
-title_of (App of_app.CutEvent) = codes "events that are cut"
-title_of (Event of_event.Result) = codes "installs"
-title_of _ = []
+-- ---- a table in the format of Prometheus
 
 -- the labels of a name's texts
 abbrev pub labels_of : Question → List (List ℕ)
@@ -95,12 +78,6 @@ labels_of (App of_app.Hour) = codes "app" ∷ codes "hour" ∷ codes "version" �
 labels_of (Event of_event.Result) =
     codes "result" ∷ codes "app" ∷ codes "from" ∷ codes "to" ∷ []
 labels_of _ = codes "app" ∷ []
-
--- the heads of a screen's columns after the number
-abbrev pub columns_of : Question → List (List ℕ)
-columns_of (Event of_event.Result) =
-    codes "share" ∷ codes "result" ∷ codes "app" ∷ codes "from" ∷ codes "to" ∷ []
-columns_of question = labels_of question
 
 -- its metric, and what that is; some tables have none
 abbrev pub metric_of : Question → List ℕ

@@ -1,13 +1,18 @@
 -- A table that counts the occurrences of names. It has at most `limit` rows; names that get no row
 -- are counted together.
 use Rattle.std.specs.Prelude.{◌≡◌, ℕ, ◌^◌, ◌-◌, ◌<◌, ◌≤◌, List, ◌++◌, min, count_by}
-use Rattle.std.specs.Prelude.{◌+◌, Bool, Some, is_none, if◌then◌else◌}
+use Rattle.std.specs.Prelude.{◌+◌, Bool, Some, String, is_none, if◌then◌else◌}
 use Rattle.std.specs.BTreeMap.{btree_map_len, get_by_text}
 use Rattle.std.specs.Str.{bytes_eq}
+use Rattle.std.specs.declared.alloc.Global.{Global}
 use Rattle.report.specs.declared.tally.Tally.{Tally}
 
 abbrev pub RowName : Type 0
 RowName = List ℕ
+
+-- the entries of a table
+abbrev pub Rows : Type 0
+Rows = List (String Global × ℕ)
 
 -- a count stops at the greatest 64-bit number
 abbrev pub capped : ℕ → ℕ

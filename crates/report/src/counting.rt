@@ -6,7 +6,6 @@ ghost use Rattle.serde_json.specs.View.{view};
 ghost use Rattle.report.specs.Counts as specs;
 ghost use Rattle.report.specs.Questions.{AreTallies, tally_named};
 ghost use Rattle.report.specs.Reading.{CountsLines};
-ghost use Rattle.report.specs.Screen.{tally_of};
 ghost use Rattle.report.specs.Members.{line_members};
 ghost use Rattle.report.specs.Windows.{event_in, event_in_window, event_of, if_within};
 
@@ -56,7 +55,7 @@ impl Report {
 
     /// The table of a question.
     pub fn tally(&self, question: Question) -> Option<&Tally>
-        ensures { option_map (λ t. t.now) result ≡ tally_of question self.now }
+        ensures { option_map (λ t. t.now) result ≡ specs.tally_of question self.now }
     {
         tally_named(&QUESTIONS, self.tallies.as_slice(), question.member())
     }

@@ -7,9 +7,7 @@ use crate::question::{AppQuestion, EventQuestion, LineQuestion, Question};
 
 impl Question {
     /// The title of its table on a screen; empty for a table that isn't shown.
-    pub fn title(self) -> &'static str
-        ensures { result.now ≡ specs.title_of self }
-    {
+    pub(crate) fn title(self) -> &'static str {
         match self {
             Question::Line(LineQuestion::Kind) => "kinds of lines",
             Question::Line(LineQuestion::Refusal) => "refusals",
@@ -29,9 +27,7 @@ impl Question {
     }
 
     /// The heads of the columns on a screen after the number.
-    pub fn columns(self) -> &'static [&'static str]
-        ensures { map (λ c. c.now) result.now ≡ specs.columns_of self }
-    {
+    pub(crate) fn columns(self) -> &'static [&'static str] {
         match self {
             Question::Event(EventQuestion::Result) => &["share", "result", "app", "from", "to"],
             _ => self.labels(),

@@ -11,8 +11,7 @@ use Rattle.json_value.specs.Bytes.{json_of}
 use Rattle.report.specs.Counts.{Counts, all_names}
 use Rattle.report.specs.LogEvents.{list_in}
 use Rattle.report.specs.Questions.{AreTallies, limit_of, member_of, names_of}
-use Rattle.report.specs.Screen.{Rows}
-use Rattle.report.specs.Tallies.{RowName, capped, has_no_row, IsTally}
+use Rattle.report.specs.Tallies.{RowName, Rows, capped, has_no_row, IsTally}
 use Rattle.report.specs.declared.counting.Report.{Report}
 use Rattle.report.specs.declared.question.Question.{Question}
 use Rattle.report.specs.declared.question.TheConstants.{QUESTIONS}

@@ -4,7 +4,7 @@ use Rattle.std.specs.List.{AllZip}
 use Rattle.json_value.specs.Bytes.{json_of}
 use Rattle.report.specs.LogEvents.{flag_in, list_in, number_in, text_in}
 use Rattle.report.specs.Questions.{member_of}
-use Rattle.report.specs.Screen.{Rows}
+use Rattle.report.specs.Tallies.{Rows}
 use Rattle.report.specs.declared.counting.Report.{Report}
 use Rattle.report.specs.declared.question.Question.{Question}
 use Rattle.report.specs.declared.question.TheConstants.{QUESTIONS}

@@ -9,7 +9,7 @@ use Rattle.std.proofs.lemmas.List.{length-set}
 use Rattle.std.proofs.lemmas.List.Sums.{sum_by-cons}
 use Rattle.timeline.specs.Bins.{bin_of, count_at, count_in, is_place, bin_at, bin_within}
 use Rattle.timeline.specs.Bins.{raised, raised_at, raised_from}
-use Rattle.report.specs.Screen.{Rows}
+use Rattle.report.specs.Tallies.{Rows}
 use Rattle.timeline.specs.Marks.{Drawn, moment_of}
 use Rattle.timeline.specs.declared.bins.Bins.{Bins}
 

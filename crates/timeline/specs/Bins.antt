@@ -5,7 +5,7 @@ use Rattle.std.specs.Prelude.{Bool, false, option_and_then, sum_by, Option, Some
 use Rattle.std.specs.Prelude.{if◌then◌else◌, String, string_bytes, slice_index, slice_set}
 use Rattle.std.specs.Prelude.{replicate}
 use Rattle.std.specs.declared.alloc.Global.{Global}
-use Rattle.report.specs.Screen.{Rows}
+use Rattle.report.specs.Tallies.{Rows}
 use Rattle.timeline.specs.Marks.{Drawn, moment_of}
 use Rattle.timeline.specs.declared.bins.Bins.{Bins}
 

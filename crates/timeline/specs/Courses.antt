@@ -1,6 +1,6 @@
 -- The versions of an app, each with its counts.
 use Rattle.std.specs.Prelude.{◌≡◌, ℕ, List, string_bytes}
-use Rattle.report.specs.Screen.{Rows}
+use Rattle.report.specs.Tallies.{Rows}
 use Rattle.timeline.specs.Newest.{newest_of}
 use Rattle.timeline.specs.Versions.{counts_of_version}
 use Rattle.timeline.specs.declared.bins.Bins.{Bins}

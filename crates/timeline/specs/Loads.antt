@@ -5,7 +5,7 @@ use Rattle.std.specs.Prelude.{None, option_and_then, String, is_none, sum_by, if
 use Rattle.std.specs.declared.alloc.Global.{Global}
 use Rattle.moments.specs.Calendar.{minute_in}
 use Rattle.report.specs.Exposition.{first}
-use Rattle.report.specs.Screen.{Rows}
+use Rattle.report.specs.Tallies.{Rows}
 use Rattle.report.specs.declared.tally.Tally.{Tally}
 use Rattle.timeline.specs.declared.bins.Bins.{Bins}
 use Rattle.timeline.specs.declared.picture.Undrawn.{Undrawn}

@@ -7,7 +7,7 @@ use Rattle.std.specs.Str.{bytes_eq}
 use Rattle.std.specs.declared.alloc.Global.{Global}
 use Rattle.lexing.specs.Decimal.{decimal_within}
 use Rattle.report.specs.Exposition.{first, rest}
-use Rattle.report.specs.Screen.{Rows}
+use Rattle.report.specs.Tallies.{Rows}
 use Rattle.timeline.specs.declared.marks.Series.{Series}
 
 -- ---- the texts of a name

@@ -1,7 +1,7 @@
 -- The newest installs of a version, by which its failures are judged.
 use Rattle.std.specs.Prelude.{◌≡◌, ℕ, ◌+◌, ◌*◌, List, [], ◌∷◌, codes, Bool, ◌&&◌, nat_le, nat_lt}
 use Rattle.std.specs.Prelude.{if◌then◌else◌, sum}
-use Rattle.report.specs.Screen.{Rows}
+use Rattle.report.specs.Tallies.{Rows}
 use Rattle.timeline.specs.Bins.{counts_by_bin}
 use Rattle.timeline.specs.Marks.{of_all, of_version}
 use Rattle.timeline.specs.declared.bins.Bins.{Bins}

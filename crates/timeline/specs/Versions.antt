@@ -1,7 +1,7 @@
 -- The versions of an app, in the order of the rows, which are sorted by name, and their counts.
 use Rattle.std.specs.Prelude.{ℕ, List, [], ◌∷◌, ◌++◌, codes, string_bytes}
-use Rattle.report.specs.Screen.{Rows}
 use Rattle.report.specs.Names.{listed}
+use Rattle.report.specs.Tallies.{Rows}
 use Rattle.timeline.specs.Marks.{drawn_count, of_all, of_version, rest_after}
 use Rattle.timeline.specs.declared.legend.VersionCounts.{VersionCounts}
 

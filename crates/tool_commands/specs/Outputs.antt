@@ -19,7 +19,7 @@ use Rattle.program_inspection.specs.Explanations.{HasExplained, IsExplainRefusal
 use Rattle.program_inspection.specs.Orders.{IsOrderedFrom, IsOrderRefusal}
 use Rattle.program_inspection.specs.Traces.{HasTraced}
 use Rattle.program_tools.specs.Programs.{IsRunRefusal}
-use Rattle.report.specs.Counters.{counters_text}
+use Rattle.report.specs.Counters.{counters_exposition}
 use Rattle.tool_commands.specs.Clients.{client_of}
 use Rattle.tool_commands.specs.Diffs.{HasDiffed, IsDiffRefusal}
 use Rattle.tool_commands.specs.DryRuns.{AreServed, HasDryRun, IsDryRunRefusal}
@@ -36,11 +36,12 @@ use Rattle.tool_words.specs.declared.args.ToolCommand.TheVariants as command
 abbrev pub form_of : ReportArgs → ReportForm
 form_of args = record { prometheus = args.prometheus; heads = args.heads }
 
--- the counters of that server in the report's form; empty without a port
+-- the counters of that server in Prometheus's format; empty without a port. No clause says how a
+-- screen shows them
 abbrev pub HasCounters : ReportArgs → List ℕ → Type 0
 HasCounters args text =
     (served : List Assignment) × AreServed args.operator served
-    × (text ≡ counters_text args.prometheus args.heads served)
+    × (args.prometheus ≡ true → text ≡ counters_exposition served)
 
 module _ (known : KnownFiles) where
   -- an accepted program with what is known about it

@@ -1,8 +1,8 @@
-use Rattle.std.proofs.Common.{◌∙◌, ap, List, Option, subst, sym, ℕ}
+use Rattle.std.proofs.Common.{List, Option, string_bytes, subst, sym, ℕ}
 use Rattle.report.specs.declared.metrics.MetricKind.{MetricKind}
 use Rattle.report.specs.declared.window.Window.{Window}
 use Rattle.log_tools.proofs.Logs.{has_reported}
-use Rattle.log_tools.specs.Reports.{IsTimeIf, text_by}
+use Rattle.log_tools.specs.Reports.{IsTextBy, IsTimeIf}
 use Rattle.log_tools.proofs.reporting.output_of_logs.Goals as goal
 
 pub returns-in-Ok : goal.returns-in-Ok
@@ -19,7 +19,6 @@ returns-in-Ok g c =
     (subst (λ (o : Option (List ℕ)). IsTimeIf c.args.until o) (sym c.text_of-2.ensures)
     c.in_ok-until.ensures) (c.requires window)
     c.in_ok-count_logs.ensures
-    (c.in-Ok.ensures.text
-    ∙ ap (λ (k : MetricKind). text_by c.args.form k c.count_logs.new.report)
-    c.kind_of-kind.ensures)
+    (subst (λ (k : MetricKind). IsTextBy c.args.form k c.count_logs.new.report
+    (string_bytes c.in-Ok.output.text)) c.kind_of-kind.ensures c.in-Ok.ensures.text)
     c.in-Ok.ensures.picture c.in-Ok.ensures.page
