@@ -19,9 +19,10 @@ fn state_in<F: StageFolder>(folder: &F, file: &ReplacedFile) -> Result<FileState
     Ok(file.state(found.as_deref()))
 }
 
-// The place of the first file, counted from 0, that is neither as the step left it nor as the step
-// found it. If there is none, the step can be undone.
-fn edited_file<F: StageFolder>(
+/// The place of the first file, counted from 0, that is neither as the step left it nor as the step
+/// found it. If there is none, `undo` changes the files.
+// open: which fault is returned.
+pub fn edited_file<F: StageFolder>(
     folder: &F,
     files: &[ReplacedFile],
 ) -> Result<Option<usize>, StepFault>
