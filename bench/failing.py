@@ -1,7 +1,8 @@
 """Tries the wrong bodies that no clause excludes: a test, or a row, has to fail with each.
 
 Each names the test crate and the test, or `rows` and the file of rows. First all of these have to
-pass as the crates are. Everything is compiled from sources, and nothing is proved.
+pass as the crates are. Everything is compiled from sources, and nothing is proved. Those that name a
+check of bench/outside, which needs built programs, are only listed.
 """
 import re
 import shutil
@@ -10,7 +11,7 @@ import tempfile
 from pathlib import Path
 
 from bodies import ROOT, copy_crates, put_in
-from checking.edits import FAILS, TESTED, edits
+from checking.edits import FAILS, OUTSIDE, TESTED, edits
 
 ROWS = "rows"
 COPIED = ["src", "specs", "proofs", "data"]
@@ -48,7 +49,8 @@ def named_by(every):
     wanted = {}
     for edit in every:
         for crate, name in FAILS.findall(edit.read_text()):
-            wanted.setdefault(crate, set()).add(name)
+            if crate != OUTSIDE:
+                wanted.setdefault(crate, set()).add(name)
     return {crate: sorted(names) for crate, names in wanted.items()}
 
 
@@ -69,6 +71,9 @@ def try_tests(crates):
                 return False
         seen = []
         for crate, edit in every:
+            if not named_by([edit]):
+                print(f"{crate}/{edit.name}: not tried: a check of bench/outside finds it")
+                continue
             said, is_seen = tell(edit, top / "crates" / crate, top, named_by([edit]))
             print(f"{crate}/{edit.name}: {said}", flush=True)
             seen.append(is_seen)

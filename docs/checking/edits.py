@@ -1,16 +1,18 @@
 """Wrong bodies: edits of a crate's files that the prover refuses, or that a test or a row finds."""
 import re
 
-from checking.places import CRATES
+from checking.places import CRATES, ROOT
 
 # Where a crate has them: those that the gate tries, the others that the prover refuses, and those
 # that no clause excludes.
 GATE, WRONG, TESTED = "must-fail", "wrong", "wrong/tests"
 # A line of an edit; a text to replace, and what replaces it, follow the file.
 PART = re.compile(r"^(file|old|new): ?(.*)$", re.M)
-# The goals at which the prover refuses an edit; the test or the file of rows that fails with one.
+# The goals at which the prover refuses an edit; the test, the file of rows or the check of
+# bench/outside that fails with one.
 GOALS = re.compile(r"^# at ([\w:+]+): (\S+)$", re.M)
 FAILS = re.compile(r"^# fails (\w+) (\S+)$", re.M)
+OUTSIDE = "outside"
 
 
 def edits(crate, folder):
@@ -41,6 +43,11 @@ def has(folder, function):
     return any(name.search(it.read_text()) for it in folder.rglob("*.rt"))
 
 
+def is_check(function):
+    """Whether a script of bench has a function of this name."""
+    return any(f"\ndef {function}(" in it.read_text() for it in (ROOT / "bench").glob("*.py"))
+
+
 def wrong_marks(edit, crate, folder):
     """What the marks of an edit lack, or name that isn't there."""
     goals, fails = GOALS.findall(edit.read_text()), FAILS.findall(edit.read_text())
@@ -50,7 +57,12 @@ def wrong_marks(edit, crate, folder):
         yield "it names no test that fails"
     yield from (f"no function {it}" for it, _ in goals if not has(crate / "src", it))
     for name, test in fails:
-        if not (CRATES / name / "data" / test).is_file() and not has(CRATES / name / "src", test):
+        if name == OUTSIDE:
+            is_there = is_check(test)
+        else:
+            folder = CRATES / name
+            is_there = (folder / "data" / test).is_file() or has(folder / "src", test)
+        if not is_there:
             yield f"no {test} in {name}"
 
 
