@@ -132,3 +132,14 @@ fn body_that_fits_goes_with_its_head(rt: HostRuntime) {
     assert!(rt; of_zeros(rt.alloc(), 1950, 2) == Err(WriteFault { written: 99 }));
     assert!(rt; of_zeros(rt.alloc(), 1950, 3) == Ok(()));
 }
+
+// A writer that takes 40 bytes and then none.
+#[test]
+fn writer_with_room_for_40_bytes(rt: HostRuntime) {
+    let (status, body, whole) = REFUSAL;
+    let mut room = [0; 40];
+    let mut writer = Counted::new(room.as_mut_slice());
+    let answer = write_reply(&mut writer, status, body.as_bytes());
+    assert!(rt; answer == Err(WriteFault { written: 40 }) && writer.failures() == 1);
+    assert!(rt; whole.as_bytes().get(..40) == Some(room.as_slice()));
+}
