@@ -9,6 +9,8 @@ use crate::printed::Printed;
 use std::fs;
 use std::io::{self, Error, Read, Write};
 use std::net::{Ipv4Addr, TcpListener, TcpStream};
+use std::sync::Arc;
+use std::sync::atomic::{AtomicBool, Ordering};
 use std::thread::{self, JoinHandle, Threads};
 use std::time::{Clock, Duration};
 
@@ -70,10 +72,13 @@ impl Background {
     }
 }
 
-/// Waits until a port accepts connections, for at most half a minute.
-fn await_port(rt: &HostRuntime, port: u16) -> io::Result<()> {
+/// Waits until a port accepts connections, or the command has ended, for at most half a minute.
+fn await_port(rt: &HostRuntime, port: u16, has_ended: &AtomicBool) -> io::Result<()> {
     for _ in 0..3000 {
         if TcpStream::connect(rt, (Ipv4Addr::LOCALHOST, port)).is_ok() {
+            return Ok(());
+        }
+        if has_ended.load(Ordering::SeqCst) {
             return Ok(());
         }
         thread::sleep(rt, Duration::from_millis(10));
@@ -125,6 +130,17 @@ fn performed<T: Handles + 'static>(rt: &Logging<T>, task: Task) -> io::Result<Pr
     }
 }
 
+/// The same, which is noted once it has ended.
+fn ended<T: Handles + 'static>(
+    rt: &Logging<T>,
+    task: Task,
+    notice: Arc<AtomicBool>,
+) -> io::Result<Printed> {
+    let printed = performed(rt, task);
+    notice.store(true, Ordering::SeqCst);
+    printed
+}
+
 /// Sends the first bytes of a file, by their number and the file's name.
 fn begun(rt: &HostRuntime, port: u16, text: &str) -> io::Result<Task> {
     let (first, name) = first_word(text);
@@ -158,7 +174,7 @@ fn task_of(rt: &HostRuntime, mark: u8, port: u16, text: &str) -> io::Result<Task
 }
 
 /// Starts what the mark says, by a port and what follows it. After a command it waits until
-/// something listens at the port; it is an error if nothing does.
+/// something listens at the port, or the command has ended; it is an error if neither comes.
 pub(crate) fn start<T: Handles + 'static>(
     rt: &Logging<T>,
     background: &mut Vec<Background>,
@@ -171,9 +187,11 @@ pub(crate) fn start<T: Handles + 'static>(
     let task = task_of(&rt.rt, mark, port, text)?;
     let began = began_of(&rt.rt, mark);
     let own = *rt;
-    let thread = thread::spawn(&rt.threads, move || performed(&own, task))?;
+    let has_ended = Arc::new(rt.rt.alloc(), AtomicBool::new(false))?;
+    let notice = has_ended.clone();
+    let thread = thread::spawn(&rt.threads, move || ended(&own, task, notice))?;
     if mark == b'&' {
-        await_port(&rt.rt, port)?;
+        await_port(&rt.rt, port, &has_ended)?;
     }
     Ok(background.push(Background {
         place,

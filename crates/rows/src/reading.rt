@@ -18,7 +18,7 @@
 //!                compared; without words, both programs' refusals if memory for words is refused
 //! & PORT WORDS   a row: a command that runs in the background up to its line `)`, which compares
 //!                its status and its whole output. The next line waits until something listens at
-//!                the port
+//!                the port or the command has ended, at most half a minute
 //! ( PORT N NAME  a row: the first N bytes of the file NAME are sent to this port, and the others
 //!                half a second later, in the background. Its line `)`, which may not come sooner,
 //!                compares what comes back
@@ -163,7 +163,7 @@ fn read_lines(alloc: Global, steps: &mut Vec<Step>, text: &str) -> Result<()> {
                 Err(error) => Err(Error::from(error)),
             },
             Part::Table => {
-                is_empty = false;
+                is_empty = is_empty && line.starts_with("# ");
                 read_block(alloc, steps, block.as_slice(), number, line)
             }
         };
