@@ -1,5 +1,6 @@
 -- What the tests of a condition require of a client: texts, flags and days.
-use Rattle.std.specs.Prelude.{ℕ, ◌+◌, List, [], ◌∷◌, Bool, true, false, ◌==◌, ◌||◌, min, max}
+use Rattle.std.specs.Prelude.{ℕ, ◌+◌, List, [], ◌∷◌, Bool, true, false, not, ◌==◌, ◌||◌}
+use Rattle.std.specs.Prelude.{min, max}
 use Rattle.std.specs.Prelude.{Option, Some, None, if◌then◌else◌}
 use Rattle.std.specs.Option.{option_or}
 use Rattle.attrs.specs.Vocabulary.{attribute_number, flag_bit}
@@ -9,7 +10,7 @@ use Rattle.attrs.specs.declared.vocabulary.Flag.TheVariants.{InstalldateKnown}
 use Rattle.rule_lang.specs.declared.condition.Step.{Step}
 use Rattle.rule_lang.specs.declared.condition.Step.TheVariants as step
 use Rattle.rule_lang.specs.declared.test.Comparison.{Comparison}
-use Rattle.rule_lang.specs.declared.test.Comparison.TheVariants.{Eq, Ne, Ge, Gt}
+use Rattle.rule_lang.specs.declared.test.Comparison.TheVariants.{Lt, Le, Eq, Ne, Ge, Gt}
 use Rattle.rule_lang.specs.declared.test.Test.{Test}
 use Rattle.rule_lang.specs.declared.test.Test.TheVariants as test
 use Rattle.warnings.specs.declared.wanted.DayOf.{DayOf}
@@ -22,10 +23,13 @@ abbrev pub is_negated : (rest : List Step) → Bool
 is_negated (step.Not ∷ rest) = true
 is_negated rest = false
 
+abbrev pub test_in : Step → Option Test
+test_in (step.Test line t) = Some t
+test_in s = None
+
 -- the test of a step, unless a `not` follows it
 abbrev pub wanted : Step → (rest : List Step) → Option Test
-wanted (step.Test line t) rest = if is_negated rest then None else Some t
-wanted s rest = None
+wanted s rest = if is_negated rest then None else test_in s
 
 -- ---- texts
 
@@ -61,12 +65,27 @@ first_day Gt n = min (n + 1) 4294967295
 first_day Ne n = if n == 0 then 1 else 0
 first_day r n = 0
 
--- the first day for which a test of this day holds; any day is known for `flag installdate_known`
-abbrev pub day_in : DayOf → Option Test → Option ℕ
-day_in Request (Some (test.Today r n)) = Some (first_day r n)
-day_in Installation (Some (test.Installed r n)) = Some (first_day r n)
-day_in Installation (Some (test.Flag InstalldateKnown)) = Some 0
-day_in day t = None
+-- how numbers compare that don't compare so
+abbrev pub opposite : Comparison → Comparison
+opposite Lt = Ge
+opposite Le = Gt
+opposite Eq = Ne
+opposite Ne = Eq
+opposite Ge = Lt
+opposite Gt = Le
+
+-- how a day has to compare
+abbrev pub required : (negated : Bool) → Comparison → Comparison
+required negated r = if negated then opposite r else r
+
+-- the first day for which a test of this day holds, or fails if it is negated; any day is known for
+-- `flag installdate_known`
+abbrev pub day_in : DayOf → (negated : Bool) → Option Test → Option ℕ
+day_in Request negated (Some (test.Today r n)) = Some (first_day (required negated r) n)
+day_in Installation negated (Some (test.Installed r n)) = Some (first_day (required negated r) n)
+day_in Installation negated (Some (test.Flag InstalldateKnown)) =
+    if negated then None else Some 0
+day_in day negated t = None
 
 abbrev pub later : Option ℕ → Option ℕ → Option ℕ
 later (Some a) (Some b) = Some (max a b)
@@ -76,22 +95,23 @@ later None other = other
 -- the latest of `found` and these first days
 abbrev pub latest_day : DayOf → (found : Option ℕ) → List Step → Option ℕ
 latest_day day found [] = found
-latest_day day found (s ∷ rest) = latest_day day (later found (day_in day (wanted s rest))) rest
+latest_day day found (s ∷ rest) =
+    latest_day day (later found (day_in day (is_negated rest) (test_in s))) rest
 
 abbrev pub wanted_day : DayOf → List Step → Option ℕ
 wanted_day day steps = latest_day day None steps
 
 -- ---- a condition
 
--- a test of an attribute, a flag or a day
-abbrev pub is_of_client : Option Test → Bool
-is_of_client (Some (test.Attr n text)) = true
-is_of_client (Some (test.Flag f)) = true
-is_of_client (Some (test.Today r n)) = true
-is_of_client (Some (test.Installed r n)) = true
-is_of_client t = false
+-- a test of a day, or one of an attribute or a flag that isn't negated
+abbrev pub is_of_client : (negated : Bool) → Option Test → Bool
+is_of_client negated (Some (test.Attr n text)) = not negated
+is_of_client negated (Some (test.Flag f)) = not negated
+is_of_client negated (Some (test.Today r n)) = true
+is_of_client negated (Some (test.Installed r n)) = true
+is_of_client negated t = false
 
 -- some test requires more than a version, a bucket or a counter
 abbrev pub needs_more : List Step → Bool
 needs_more [] = false
-needs_more (s ∷ rest) = is_of_client (wanted s rest) || needs_more rest
+needs_more (s ∷ rest) = is_of_client (is_negated rest) (test_in s) || needs_more rest

@@ -1,5 +1,5 @@
-//! What the tests of a condition require of a client: texts, flags and days. A test that a `not`
-//! follows requires nothing.
+//! What the tests of a condition require of a client: texts, flags and days. Of the tests that a
+//! `not` follows only those of a day require something: the opposite.
 
 ghost use Rattle.std.specs.Prelude.{◌≡◌, option_copied};
 ghost use Rattle.warnings.specs.Wanted as specs;
@@ -25,14 +25,24 @@ fn is_negated(rest: &[Step]) -> bool
     }
 }
 
+fn test_in(step: &Step) -> Option<&Test>
+    ensures { option_copied result ≡ specs.test_in step.now }
+{
+    match step {
+        Step::Test { test, .. } => Some(test),
+        _ => None,
+    }
+}
+
 // The test of a step, unless a `not` follows it.
 fn wanted<'a>(step: &'a Step, rest: &[Step]) -> Option<&'a Test>
     ensures { option_copied result ≡ specs.wanted step.now rest.now }
 {
-    let Step::Test { test, .. } = step else {
-        return None;
-    };
-    if is_negated(rest) { None } else { Some(test) }
+    if is_negated(rest) {
+        None
+    } else {
+        test_in(step)
+    }
 }
 
 // ---- texts
@@ -105,18 +115,45 @@ fn first_day(comparison: Comparison, number: u32) -> u32
     }
 }
 
-// The first day for which a test of this day holds.
-fn day_in(day: DayOf, test: Option<&Test>) -> Option<u32>
-    ensures { result ≡ specs.day_in day (option_copied test.entry) }
+// How numbers compare that don't compare so.
+fn opposite(comparison: Comparison) -> Comparison
+    ensures { result ≡ specs.opposite comparison }
+{
+    match comparison {
+        Comparison::Lt => Comparison::Ge,
+        Comparison::Le => Comparison::Gt,
+        Comparison::Eq => Comparison::Ne,
+        Comparison::Ne => Comparison::Eq,
+        Comparison::Ge => Comparison::Lt,
+        Comparison::Gt => Comparison::Le,
+    }
+}
+
+// How a day has to compare.
+fn required(negated: bool, comparison: Comparison) -> Comparison
+    ensures { result ≡ specs.required negated comparison }
+{
+    if negated {
+        opposite(comparison)
+    } else {
+        comparison
+    }
+}
+
+// The first day for which a test of this day holds, or fails if it is negated.
+fn day_in(day: DayOf, negated: bool, test: Option<&Test>) -> Option<u32>
+    ensures { result ≡ specs.day_in day negated (option_copied test.entry) }
 {
     match (day, test) {
         (DayOf::Request, Some(Test::Today { comparison, number })) => {
-            Some(first_day(*comparison, *number))
+            Some(first_day(required(negated, *comparison), *number))
         }
         (DayOf::Installation, Some(Test::Installed { comparison, number })) => {
-            Some(first_day(*comparison, *number))
+            Some(first_day(required(negated, *comparison), *number))
         }
-        (DayOf::Installation, Some(Test::Flag(Flag::InstalldateKnown))) => Some(0),
+        (DayOf::Installation, Some(Test::Flag(Flag::InstalldateKnown))) => {
+            if negated { None } else { Some(0) }
+        }
         _ => None,
     }
 }
@@ -131,14 +168,14 @@ fn later(one: Option<u32>, other: Option<u32>) -> Option<u32>
     }
 }
 
-/// The latest of the first days for which the tests of this day hold.
+/// The latest of the first days for which the tests of this day hold, or fail behind a `not`.
 pub(crate) fn wanted_day(day: DayOf, steps: &[Step]) -> Option<u32>
     ensures { result ≡ specs.wanted_day day steps.now }
 {
     let mut found = None;
     let mut left = steps;
     while let [step, rest @ ..] = left {
-        found = later(found, day_in(day, wanted(step, rest)));
+        found = later(found, day_in(day, is_negated(rest), test_in(step)));
         left = rest;
     }
     found
@@ -146,12 +183,13 @@ pub(crate) fn wanted_day(day: DayOf, steps: &[Step]) -> Option<u32>
 
 // ---- a condition
 
-fn is_of_client(test: Option<&Test>) -> bool
-    ensures { result ≡ specs.is_of_client (option_copied test.entry) }
+// A test of a day, or one of an attribute or a flag that isn't negated.
+fn is_of_client(negated: bool, test: Option<&Test>) -> bool
+    ensures { result ≡ specs.is_of_client negated (option_copied test.entry) }
 {
     match test {
-        Some(Test::Attr { .. }) => true,
-        Some(Test::Flag(_flag)) => true,
+        Some(Test::Attr { .. }) => !negated,
+        Some(Test::Flag(_flag)) => !negated,
         Some(Test::Today { .. }) => true,
         Some(Test::Installed { .. }) => true,
         _ => false,
@@ -164,7 +202,7 @@ pub(crate) fn needs_more(steps: &[Step]) -> bool
 {
     let mut left = steps;
     while let [step, rest @ ..] = left {
-        if is_of_client(wanted(step, rest)) {
+        if is_of_client(is_negated(rest), test_in(step)) {
             return true;
         }
         left = rest;
