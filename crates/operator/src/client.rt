@@ -49,8 +49,9 @@ where
     }
 }
 
-/// The reply to a stop, once the server has ended: a connection to its operator's port is refused.
-/// It checks ten times a second, as long as anything listens at the port, even another server.
+/// The reply to a stop, once the server has ended: a connection to its operator's port is refused,
+/// or another server replies there, since one that ends replies to nothing more. It checks at most
+/// ten times a second.
 // open: that a server replies, and when it has ended: tests.
 pub fn stop_and_wait<R>(rt: &R, port: u16) -> Result<String, RequestFault>
 where
@@ -67,19 +68,34 @@ where
     }
 }
 
-// Waits until a connection to the port is refused. Any other failure, such as a lack of file
-// descriptors, says nothing about the server.
+// Waits until a connection to the port is refused, or another server replies there. Any other
+// failure, such as a lack of file descriptors, says nothing about the server.
 fn wait_for_end<R>(rt: &R, port: u16)
 where
-    R: Net<Stream = TcpStream> + Clock,
+    R: Net<Stream = TcpStream> + AllocGlobal + Clock,
 {
     let place = SocketAddr::new(IpAddr::V4(Ipv4Addr::LOCALHOST), port);
     for _ in 0..u64::MAX {
         match TcpStream::connect_timeout(rt, &place, Duration::from_secs(LOOK_SECONDS)) {
             Err(error) if error.kind() == ErrorKind::ConnectionRefused => return,
-            _ => thread::sleep(rt, Duration::from_millis(LOOK_MILLIS)),
+            Err(_) => {}
+            Ok(connection) => {
+                drop(connection);
+                if is_served(rt, port) {
+                    return;
+                }
+            }
         }
+        thread::sleep(rt, Duration::from_millis(LOOK_MILLIS));
     }
+}
+
+// Whether a server replies to `show`. One that ends gives no reply up to its end.
+fn is_served<R>(rt: &R, port: u16) -> bool
+where
+    R: Net<Stream = TcpStream> + AllocGlobal,
+{
+    ask_server(rt, OperatorRequest::Show, port).is_ok()
 }
 
 // The lines of a reply, or the words of its refusal.
