@@ -100,13 +100,12 @@ by_meaning p a rule old choice new before lines shape same fresh means ranges sh
     }
 
 pub by_trace : (p : ShapedProgram) (a held : Attributes) (old new : List ℕ) (choice count : ℕ)
-    (steps : List ℕ) (jump : Option Jump) → held ≡ a
-    → IsTraced p (opening held) old new choice count steps jump → count ≤ length p.code
+    (jump : Option Jump) → held ≡ a
+    → IsTraced p (opening held) old new choice count jump → count ≤ length p.code
     → choice ≤ p.shape.releases → ExplainsCourse p None a old choice new (ByRun count jump)
-by_trace p a held old new choice count steps jump same traced short among =
-    let run : IsTraced p (opening a) old new choice count steps jump =
-    subst (λ (b : Attributes). IsTraced p (opening b) old new choice count steps jump) same traced
-    in
+by_trace p a held old new choice count jump same traced short among =
+    let run : IsTraced p (opening a) old new choice count jump =
+    subst (λ (b : Attributes). IsTraced p (opening b) old new choice count jump) same traced in
     record {
       count = count;
       run = record {

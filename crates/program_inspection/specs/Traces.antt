@@ -1,5 +1,5 @@
 -- The results of the command `trace` for the bytes of a file.
-use Rattle.std.specs.Prelude.{ℕ, List}
+use Rattle.std.specs.Prelude.{ℕ}
 use Rattle.bounded_files.specs.Files.{KnownFiles}
 use Rattle.bpf_semantics.specs.Program.{ShapedProgram}
 use Rattle.command_line.specs.Apps.{app_attributes}
@@ -7,9 +7,9 @@ use Rattle.command_line.specs.declared.run_args.RunArgs.{RunArgs}
 use Rattle.program_tools.specs.Programs.{IsProgramFor}
 use Rattle.trace.specs.Trace.{IsTrace}
 
--- the requested program is accepted, makes this choice after `count` instructions, and this is the
--- trace of its run
-abbrev pub HasTraced : KnownFiles → RunArgs → (choice count : ℕ) → (text : List ℕ) → Type 0
-HasTraced known run choice count text =
+-- the requested program is accepted, and makes this choice after `count` instructions. No clause says
+-- how the lines of its run look
+abbrev pub HasTraced : KnownFiles → RunArgs → (choice count : ℕ) → Type 0
+HasTraced known run choice count =
     (p : ShapedProgram) × IsProgramFor known run.path.now run.shape p
-    × IsTrace p (app_attributes run.app run.bucket) choice count text
+    × IsTrace p (app_attributes run.app run.bucket) choice count

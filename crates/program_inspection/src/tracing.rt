@@ -1,6 +1,6 @@
 //! `trace`: the run of a file's program for one app, step by step.
 
-ghost use Rattle.std.specs.Prelude.{IfOk, IfErr, string_bytes};
+ghost use Rattle.std.specs.Prelude.{IfOk, IfErr};
 ghost use Rattle.command_line.specs.Apps.{app_attributes};
 ghost use Rattle.program_inspection.specs.Traces.{HasTraced};
 ghost use Rattle.program_tools.specs.Programs.{IsRunRefusal};
@@ -16,14 +16,14 @@ use trace::{TracedRun, trace};
 
 /// Runs a file's program like `run_file` of `program_tools`, and writes a line for each instruction
 /// of the run.
-// open: whether an allocation fails (N3, F9, V15); what a device's files contain.
+// open: whether an allocation fails (N3, F9, V15); what a device's files contain; the lines: rows.
 pub fn trace_file<D: Disk>(
     alloc: Global,
     disk: &D,
     run: &RunArgs<'_>,
 ) -> Result<TracedRun, ProgramToolFault>
     ensures run { IfOk result (λ t.
-        HasTraced (D.known disk.now) run.now t.choice t.count (string_bytes t.text)) }
+        HasTraced (D.known disk.now) run.now t.choice t.count) }
     ensures fault { IfErr result
         (IsRunRefusal (D.known disk.now) run.now.path.now run.now.shape) }
 {
@@ -44,8 +44,8 @@ fn traced(
     app: &AppArgs<'_>,
     bucket: Option<Bucket>,
 ) -> Result<TracedRun, AllocError>
-    ensures { IfOk result (λ t. IsTrace program.now (app_attributes app.now bucket)
-        t.choice t.count (string_bytes t.text)) }
+    ensures { IfOk result (λ t.
+        IsTrace program.now (app_attributes app.now bucket) t.choice t.count) }
 {
     let attrs = shared_attributes(alloc, app, bucket)?;
     trace(alloc, program, attrs)

@@ -85,7 +85,7 @@ module _ (known : KnownFiles) where
   -- nothing is known about a folder of a device, nor about its servers
   IsOutput (command.Stage args) (output.Staged outcome) = Unit {0}
   IsOutput (command.Trace run) (output.Traced lines choice instructions) =
-      HasTraced known run choice instructions (string_bytes lines)
+      HasTraced known run choice instructions
   IsOutput (command.Why args) (output.Why text) = HasLoggedWhy known args (string_bytes text)
   IsOutput command output = ⊥
 

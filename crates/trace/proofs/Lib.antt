@@ -1,2 +1,2 @@
-mod Texts
+mod Slots
 mod Steps

@@ -1,8 +1,7 @@
 -- A run that is traced step by step. Any run from the present state, after the steps so far, is a
--- run from the first state. Its trace is the text so far followed by its own lines. Its last jump
--- is its own, or else the last one so far.
-use Rattle.std.proofs.Common.{◌≡◌, ℕ, ◌+◌, ◌<◌, ◌≤◌, List, [], ◌∷◌, ◌++◌, subst, sym}
-use Rattle.std.proofs.Common.{refl, append_assoc, arith, Option, Some, None}
+-- run from the first state. Its last jump is its own, or else the last one so far.
+use Rattle.std.proofs.Common.{◌≡◌, ℕ, ◌+◌, ◌<◌, ◌≤◌, List, [], ◌∷◌, subst}
+use Rattle.std.proofs.Common.{refl, arith, Option, Some, None}
 use Rattle.std.specs.Option.{option_or}
 use Rattle.std.specs.Prelude.{All}
 use Rattle.std.proofs.lemmas.List.Elements.{All-cons, All-nil}
@@ -21,8 +20,7 @@ use Rattle.bpf_verify.specs.Covers.{IsCovered, IsSafeOutcome, StepsAreSafe}
 use Rattle.bpf_verify.specs.Covers.{AreLawful, HasPossibleReply}
 use Rattle.reference.specs.Observed.{IsEventStep}
 use Rattle.trace.specs.Jumps.{jump_between, last_jump_of}
-use Rattle.trace.specs.Lines.{line_between}
-use Rattle.trace.specs.Trace.{trace_of, IsTraced}
+use Rattle.trace.specs.Trace.{IsTraced}
 use Rattle.trace.specs.declared.jump.Jump.{Jump}
 
 -- the first of three jumps that exists, in either grouping
@@ -35,23 +33,23 @@ or_none None = refl
 or_none (Some jump) = refl
 
 module _ (p : ShapedProgram) where
-  abbrev pub GoesOn : State → List ℕ → List ℕ → Option Jump → State → List ℕ → Type 0
-  GoesOn first old text jump s values =
+  abbrev pub GoesOn : State → List ℕ → Option Jump → State → List ℕ → Type 0
+  GoesOn first old jump s values =
       (events : List CellEvent) (choice count : ℕ) (left : List ℕ)
       → (rest : Ends p s events choice count) → GrewBy IsEvent values events left
       → All HasPossibleReply events → AreLawful p.shape events
-      → IsTraced p first old left choice count (text ++ trace_of p s events choice count rest)
+      → IsTraced p first old left choice count
       (option_or (last_jump_of p s events choice count rest) jump)
 
   -- the state is covered, and at most as many instructions were executed as come before it
-  pub record IsTold (first : State) (old text : List ℕ) (jump : Option Jump) (s : State)
+  pub record IsTold (first : State) (old : List ℕ) (jump : Option Jump) (s : State)
       (values : List ℕ) : Type 0 where
     pub covered : IsCovered p s
     pub counted : s.count ≤ s.slot
-    pub goes_on : GoesOn first old text jump s values
+    pub goes_on : GoesOn first old jump s values
 
   pub covered_at_start : (first : State) (old : List ℕ) → IsCovered p first
-      → first.count ≤ first.slot → IsTold first old [] None first old
+      → first.count ≤ first.slot → IsTold first old None first old
   covered_at_start first old covered counted = record {
     covered = covered;
     counted = counted;
@@ -61,54 +59,47 @@ module _ (p : ShapedProgram) where
       ends = rest;
       fits = fits;
       lawful = lawful;
-      text_is = refl;
       jump_is = or_none (last_jump_of p first events choice count rest);
     };
   }
 
-  -- the text and the last jump of a longer run, with those of its first step moved over
-  moved_over : (first : State) (old left : List ℕ) (choice count : ℕ) (text own rest : List ℕ)
+  -- the last jump of a longer run, with that of its first step moved over
+  moved_over : (first : State) (old left : List ℕ) (choice count : ℕ)
       (jump taken later : Option Jump)
-      → IsTraced p first old left choice count (text ++ (own ++ rest))
-      (option_or (option_or later taken) jump)
-      → IsTraced p first old left choice count (text ++ own ++ rest)
-      (option_or later (option_or taken jump))
-  moved_over first old left choice count text own rest jump taken later traced =
-      subst (λ (t : List ℕ). IsTraced p first old left choice count t
-      (option_or later (option_or taken jump))) (sym (append_assoc text own rest))
-      (subst (λ (j : Option Jump). IsTraced p first old left choice count (text ++ (own ++ rest)) j)
-      (or_again later taken jump) traced)
+      → IsTraced p first old left choice count (option_or (option_or later taken) jump)
+      → IsTraced p first old left choice count (option_or later (option_or taken jump))
+  moved_over first old left choice count jump taken later traced =
+      subst (λ (j : Option Jump). IsTraced p first old left choice count j)
+      (or_again later taken jump) traced
 
-  pub went : StepsAreSafe p → (first : State) (old text longer : List ℕ)
-      (jump later : Option Jump) (s t : State) (values after : List ℕ) → IsNext s (step p s)
-      → IsTold first old text jump s values → step p s ≡ Going t
-      → longer ≡ text ++ line_between p s None t
+  pub went : StepsAreSafe p → (first : State) (old : List ℕ) (jump later : Option Jump)
+      (s t : State) (values after : List ℕ) → IsNext s (step p s)
+      → IsTold first old jump s values → step p s ≡ Going t
       → later ≡ option_or (jump_between p s t) jump → after ≡ values
-      → IsTold first old longer later t after
-  unfolding trace_of last_jump_of
-  went safe first old text longer jump later s t values after law told is grown latest same =
+      → IsTold first old later t after
+  unfolding last_jump_of
+  went safe first old jump later s t values after law told is latest same =
       let ahead = subst (IsSafeOutcome p s) is (safe s told.covered) in
       let count = (subst (IsNext s) is law).count in
       let count_before = told.counted in
       let further = ahead.0 in
-      rw (grown, latest, same) (record {
+      rw (latest, same) (record {
         covered = ahead.1;
         counted = omega (arith, count, count_before, further);
         goes_on = λ events choice number left rest legal fits lawful.
-            moved_over first old left choice number text (line_between p s None t)
-            (trace_of p t events choice number rest) jump (jump_between p s t)
+            moved_over first old left choice number jump (jump_between p s t)
             (last_jump_of p t events choice number rest)
             (told.goes_on events choice number left (more is rest) legal fits lawful);
       })
 
-  asked_there : StepsAreSafe p → (first : State) (old text : List ℕ) (jump : Option Jump)
+  asked_there : StepsAreSafe p → (first : State) (old : List ℕ) (jump : Option Jump)
       (s : State) (values after : List ℕ) (e : CellEvent) (t : State) → IsNext s (step p s)
-      → IsTold first old text jump s values → (was : IsEventStep p s e t)
+      → IsTold first old jump s values → (was : IsEventStep p s e t)
       → IsEvent values e after
-      → IsTold first old (text ++ line_between p s (Some e) (was.next e.reply))
-      (option_or (jump_between p s (was.next e.reply)) jump) (was.next e.reply) after
-  unfolding trace_of last_jump_of
-  asked_there safe first old text jump s values after e t law told was event =
+      → IsTold first old (option_or (jump_between p s (was.next e.reply)) jump)
+      (was.next e.reply) after
+  unfolding last_jump_of
+  asked_there safe first old jump s values after e t law told was event =
       let operates = subst (IsSafeOutcome p s) was.operates (safe s told.covered) in
       let ahead = operates.1 e.reply was.fits in
       let count = (subst (IsNext s) was.operates law e.reply).count in
@@ -118,33 +109,27 @@ module _ (p : ShapedProgram) where
         covered = ahead.1;
         counted = omega (arith, count, count_before, further);
         goes_on = λ events choice number left rest legal fits lawful.
-            moved_over first old left choice number text
-            (line_between p s (Some e) (was.next e.reply))
-            (trace_of p (was.next e.reply) events choice number rest) jump
-            (jump_between p s (was.next e.reply))
+            moved_over first old left choice number jump (jump_between p s (was.next e.reply))
             (last_jump_of p (was.next e.reply) events choice number rest)
             (told.goes_on (e ∷ events) choice number left (operated was.operates rest)
             (after, event, legal) (All-cons HasPossibleReply e events was.fits fits)
             (All-cons (λ d. IsLawful p.shape d.cell d.op) e events operates.0 lawful));
       }
 
-  pub replied : StepsAreSafe p → (first : State) (old text longer : List ℕ)
-      (jump later : Option Jump) (s t : State) (values after : List ℕ) (e : CellEvent)
-      → IsNext s (step p s) → IsTold first old text jump s values → IsEventStep p s e t
-      → IsEvent values e after → longer ≡ text ++ line_between p s (Some e) t
-      → later ≡ option_or (jump_between p s t) jump → IsTold first old longer later t after
-  replied safe first old text longer jump later s t values after e law told was event grown
-      latest =
-      rw (grown, latest, was.state)
-      (asked_there safe first old text jump s values after e t law told was event)
+  pub replied : StepsAreSafe p → (first : State) (old : List ℕ) (jump later : Option Jump)
+      (s t : State) (values after : List ℕ) (e : CellEvent)
+      → IsNext s (step p s) → IsTold first old jump s values → IsEventStep p s e t
+      → IsEvent values e after → later ≡ option_or (jump_between p s t) jump
+      → IsTold first old later t after
+  replied safe first old jump later s t values after e law told was event latest =
+      rw (latest, was.state) (asked_there safe first old jump s values after e t law told was event)
 
-  pub ended : (first : State) (old text longer : List ℕ) (jump : Option Jump) (s t : State)
-      (values : List ℕ) (choice : ℕ) → IsTold first old text jump s values
-      → step p s ≡ Done choice → t ≡ s → longer ≡ text ++ line_between p s None t
-      → IsTraced p first old values choice (t.count + 1) longer jump
-  unfolding trace_of last_jump_of
-  ended first old text longer jump s t values choice told is same grown =
-      rw (grown, same) (told.goes_on [] choice (s.count + 1) values (last is refl) refl
+  pub ended : (first : State) (old : List ℕ) (jump : Option Jump) (s t : State)
+      (values : List ℕ) (choice : ℕ) → IsTold first old jump s values
+      → step p s ≡ Done choice → t ≡ s → IsTraced p first old values choice (t.count + 1) jump
+  unfolding last_jump_of
+  ended first old jump s t values choice told is same =
+      rw same (told.goes_on [] choice (s.count + 1) values (last is refl) refl
       (All-nil HasPossibleReply) (All-nil (λ d. IsLawful p.shape d.cell d.op)))
 
   -- the machine defines every step, and the choice is a release or 0

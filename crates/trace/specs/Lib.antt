@@ -1,3 +1,2 @@
 pub mod Jumps
-pub mod Lines
 pub mod Trace

@@ -1,11 +1,7 @@
 //! What an instruction wrote: a register, or bytes of the stack.
 
-ghost use Rattle.std.specs.Prelude.{◌≡◌, ◌++◌, OnOk, string_bytes};
-ghost use Rattle.bpf_semantics.specs.Reads as reads;
-ghost use Rattle.bpf_semantics.specs.State.{read_at};
+ghost use Rattle.std.specs.Prelude.{◌≡◌};
 ghost use Rattle.bpf_checks.specs.Reads.{writes};
-ghost use Rattle.reference.specs.Marks.{state_of};
-ghost use Rattle.trace.specs.Lines as specs;
 
 use bpf_insn::{Insn, Reg, Size};
 use bpf_semantics::{STACK_TOP, add_offset, byte_count, fetched};
@@ -14,10 +10,11 @@ use std::alloc::AllocError;
 use std::fmt::Write;
 
 /// Writes the value of the register that the instruction wrote, if it wrote one.
-pub fn push_written(text: &mut String, insn: Insn, run: &Interpreter) -> Result<(), AllocError>
-    ensures { OnOk result (string_bytes text.new
-        ≡ string_bytes text.old ++ specs.written_part insn (state_of run.now)) }
-{
+pub(crate) fn push_written(
+    text: &mut String,
+    insn: Insn,
+    run: &Interpreter,
+) -> Result<(), AllocError> {
     let Some(register) = written(insn) else {
         return Ok(());
     };
@@ -29,10 +26,11 @@ pub fn push_written(text: &mut String, insn: Insn, run: &Interpreter) -> Result<
 }
 
 /// Writes the bytes of the stack that the instruction wrote, if it wrote any, as a number.
-pub fn push_stored(text: &mut String, insn: Insn, run: &Interpreter) -> Result<(), AllocError>
-    ensures { OnOk result (string_bytes text.new
-        ≡ string_bytes text.old ++ specs.stored_part insn (state_of run.now)) }
-{
+pub(crate) fn push_stored(
+    text: &mut String,
+    insn: Insn,
+    run: &Interpreter,
+) -> Result<(), AllocError> {
     match insn {
         Insn::StoreImm {
             size,
@@ -50,27 +48,18 @@ pub fn push_stored(text: &mut String, insn: Insn, run: &Interpreter) -> Result<(
     }
 }
 
+// The number of the bytes that lie this far from an address of the stack.
 fn push_bytes(
     text: &mut String,
     run: &Interpreter,
     base: Option<u64>,
     offset: i16,
     size: Size,
-) -> Result<(), AllocError>
-    ensures { OnOk result (string_bytes text.new ≡ string_bytes text.old
-        ++ specs.bytes_part (state_of run.now) base offset (reads.byte_count size)) }
-{
-    match base {
-        Some(base) => push_at(text, run, add_offset(base, offset), size),
-        None => Ok(()),
-    }
-}
-
-// The number of the bytes at an address of the stack.
-fn push_at(text: &mut String, run: &Interpreter, address: u64, size: Size) -> Result<(), AllocError>
-    ensures { OnOk result (string_bytes text.new ≡ string_bytes text.old
-        ++ specs.stack_part address (read_at (state_of run.now) address (reads.byte_count size))) }
-{
+) -> Result<(), AllocError> {
+    let Some(base) = base else {
+        return Ok(());
+    };
+    let address = add_offset(base, offset);
     let Some(value) = run.number_at(address, byte_count(size) as u64) else {
         return Ok(());
     };

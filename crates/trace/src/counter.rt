@@ -1,22 +1,16 @@
 //! A counter in a line: its name, the operation and the reply.
 
-ghost use Rattle.std.specs.Prelude.{◌≡◌, ◌++◌, OnOk, string_bytes};
-ghost use Rattle.trace.specs.Lines as specs;
-
 use cells::{CellEvent, CellOp, Shape};
 use explain::push_counter;
 use std::alloc::AllocError;
 use std::fmt::Write;
 
 /// Writes the operation on a counter, if there was one.
-pub fn push_event(
+pub(crate) fn push_event(
     text: &mut String,
     shape: &Shape,
     event: Option<CellEvent>,
-) -> Result<(), AllocError>
-    ensures { OnOk result (string_bytes text.new
-        ≡ string_bytes text.old ++ specs.event_part shape.now event) }
-{
+) -> Result<(), AllocError> {
     let Some(event) = event else {
         return Ok(());
     };
@@ -28,9 +22,7 @@ pub fn push_event(
     write!(text, " replied {reply}")
 }
 
-fn push_op(text: &mut String, op: CellOp) -> Result<(), AllocError>
-    ensures { OnOk result (string_bytes text.new ≡ string_bytes text.old ++ specs.op_text op) }
-{
+fn push_op(text: &mut String, op: CellOp) -> Result<(), AllocError> {
     match op {
         CellOp::Load => text.push_str("load"),
         CellOp::Store(new) => write!(text, "store {new}"),

@@ -1,8 +1,4 @@
-//! The line of one step.
-
-ghost use Rattle.std.specs.Prelude.{◌≡◌, ◌++◌, OnOk, string_bytes};
-ghost use Rattle.reference.specs.Marks.{state_of};
-ghost use Rattle.trace.specs.Lines as specs;
+//! The line of one step. No clause says how it looks; rows of `crates/rows` compare it.
 
 use crate::changes::{push_stored, push_written};
 use crate::counter::push_event;
@@ -13,24 +9,20 @@ use reference::Interpreter;
 use std::alloc::AllocError;
 use std::fmt::Write;
 
-/// Writes the line of a step: the instruction at a slot, and its operation on a counter; the run is
-/// in the state after it.
-pub fn push_step(
+/// Writes the line of a step: the instruction at a slot, its operation on a counter, and what it
+/// wrote; the run is in the state after it.
+pub(crate) fn push_step(
     text: &mut String,
     shape: &Shape,
     slot: usize,
     insn: Insn,
-    asked: Option<CellEvent>,
+    event: Option<CellEvent>,
     run: &Interpreter,
-) -> Result<(), AllocError>
-    ensures { OnOk result (string_bytes text.new ≡ string_bytes text.old
-        ++ specs.step_line shape.now slot insn asked (state_of run.now)) }
-{
+) -> Result<(), AllocError> {
     write!(text, "{slot}: ")?;
     push_bare_line(text, insn)?;
-    push_event(text, shape, asked)?;
+    push_event(text, shape, event)?;
     push_written(text, insn, run)?;
     push_stored(text, insn, run)?;
-    text.push_str("\n")?;
-    Ok(())
+    text.push_str("\n")
 }

@@ -1,6 +1,6 @@
 //! A whole run, step by step.
 
-ghost use Rattle.std.specs.Prelude.{◌≡◌, ◌≤◌, IfOk, length, string_bytes};
+ghost use Rattle.std.specs.Prelude.{◌≡◌, ◌≤◌, IfOk, length};
 ghost use Rattle.std.specs.Arc.{arc_value};
 ghost use Rattle.bpf_semantics.specs.State.{opening};
 ghost use Rattle.trace.specs.Trace.{IsTrace, IsTraced, IsTracedRun};
@@ -28,13 +28,12 @@ pub struct TracedRun {
 }
 
 /// The trace of a program's run for an app, on its own counters, which start at 0.
-// open: whether an allocation fails, its only error.
+// open: whether an allocation fails, its only error; the lines: rows.
 pub fn trace(alloc: Global, program: &Verified, attrs: Arc<Attrs>) -> Result<TracedRun, AllocError>
     ensures run { IfOk result (λ t. IsTracedRun program.now (arc_value attrs)
-        t.choice t.count (string_bytes t.text) t.last_jump) }
-    // So it is the run's trace, for a caller that needs no jump.
-    ensures trace { IfOk result (λ t. IsTrace program.now (arc_value attrs)
-        t.choice t.count (string_bytes t.text)) }
+        t.choice t.count t.last_jump) }
+    // The same for a caller that needs no jump.
+    ensures trace { IfOk result (λ t. IsTrace program.now (arc_value attrs) t.choice t.count) }
     ensures release { IfOk result (λ t. t.choice ≤ program.now.shape.releases) }
 {
     let Ok((_cells, mut counters)) = PlainCells::new(alloc) else {
@@ -46,7 +45,7 @@ pub fn trace(alloc: Global, program: &Verified, attrs: Arc<Attrs>) -> Result<Tra
 
 /// The trace of a program's run for an app, on counters with these values, which its operations
 /// change.
-// open: whether an allocation fails, and the counters in that case.
+// open: whether an allocation fails, and the counters in that case; the lines: rows.
 pub fn trace_on(
     alloc: Global,
     program: &Verified,
@@ -54,7 +53,7 @@ pub fn trace_on(
     counters: &mut PlainPass,
 ) -> Result<TracedRun, AllocError>
     ensures run { IfOk result (λ t. IsTraced program.now (opening (arc_value attrs))
-        counters.old counters.new t.choice t.count (string_bytes t.text) t.last_jump) }
+        counters.old counters.new t.choice t.count t.last_jump) }
     ensures short { IfOk result (λ t. t.count ≤ length program.now.code) }
     ensures release { IfOk result (λ t. t.choice ≤ program.now.shape.releases) }
 {

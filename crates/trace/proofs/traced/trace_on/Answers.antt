@@ -1,4 +1,4 @@
-use Rattle.std.proofs.Common.{◌≡◌, ◌∙◌, ap, subst, string_bytes, Some, None, arith}
+use Rattle.std.proofs.Common.{◌≡◌, ◌∙◌, ap, subst, Some, None, arith}
 use Rattle.std.specs.Arc.{arc_value}
 use Rattle.bpf_semantics.specs.Outcome.{Going, Done}
 use Rattle.bpf_semantics.specs.Program.{ShapedProgram}
@@ -7,11 +7,11 @@ use Rattle.bpf_semantics.specs.Step.{step}
 use Rattle.reference.specs.Observed.{IsEventStep}
 use Rattle.reference.specs.Marks.{state_of}
 use Rattle.trace.proofs.Steps.{covered_at_start, went, replied, ended, ahead, ahead_asked}
-use Rattle.trace.proofs.Texts.{place_within, line_is, jump_is, whole}
+use Rattle.trace.proofs.Slots.{place_within, jump_is, whole}
 use Rattle.trace.proofs.traced.trace_on.Goals as goal
 
 pub steps-init : goal.steps-init
-steps-init c = rw (c.new-text.ensures.bytes, c.start-run.ensures)
+steps-init c = rw c.start-run.ensures
     (covered_at_start c.args.program.now (opening (arc_value c.args.attrs)) c.args.counters.now
     (c.invariant_law.ensures.opens (arc_value c.args.attrs)
     (rw c.deref-facts.ensures at c.invariant_law-2.ensures.texts)) (omega arith))
@@ -39,17 +39,11 @@ steps-smaller-in-Going c =
 
 pub steps-preserved-in-Going : goal.steps-preserved-in-Going
 steps-preserved-in-Going c =
-    let told = line_is c.args.program.now (state_of c.steps.run) c.shape-shape.result.now
-    c.slot-slot.result c.insn-insn.result.now None (state_of c.step.new.self)
-    (string_bytes c.steps.text) (string_bytes c.push_step.new.text)
-    c.shape-shape.ensures c.slot-slot.ensures
-    c.insn-insn.ensures c.in_ok-push_step-in-Going.ensures in
     let jumped = jump_is c.args.program.now (state_of c.steps.run) (state_of c.step.new.self)
     c.slot-slot.result c.insn-insn.result.now c.steps.last_jump c.latest_jump-last_jump.result
     c.slot-slot.ensures c.insn-insn.ensures c.latest_jump-last_jump.ensures in
     went c.args.program.now c.invariant_law.ensures.sound (opening (arc_value c.args.attrs))
-    c.args.counters.now (string_bytes c.steps.text) (string_bytes c.push_step.new.text)
-    c.steps.last_jump c.latest_jump-last_jump.result (state_of c.steps.run)
+    c.args.counters.now c.steps.last_jump c.latest_jump-last_jump.result (state_of c.steps.run)
     (state_of c.step.new.self) c.steps.counters c.step.new.pass
     (c.counts_instructions.ensures c.args.program.now (state_of c.steps.run))
     c.steps.invariant
@@ -58,7 +52,6 @@ steps-preserved-in-Going c =
     c.deref.result.now c.in_ok-code.code.items c.shape-shape.result.now
     c.deref.ensures.value c.in_ok-code.ensures c.shape-shape.ensures)
     c.in-Going.ensures.step)
-    told
     jumped
     c.in-Going.ensures.grew
 
@@ -78,18 +71,12 @@ steps-smaller c =
 
 pub steps-preserved : goal.steps-preserved
 steps-preserved c =
-    let told = line_is c.args.program.now (state_of c.steps.run) c.shape-shape.result.now
-    c.slot-slot.result c.insn-insn.result.now (Some c.in-Event.event) (state_of c.step.new.self)
-    (string_bytes c.steps.text) (string_bytes c.push_step-in-Event.new.text)
-    c.shape-shape.ensures c.slot-slot.ensures
-    c.insn-insn.ensures c.in_ok-push_step-in-Event.ensures in
     let jumped = jump_is c.args.program.now (state_of c.steps.run) (state_of c.step.new.self)
     c.slot-slot.result c.insn-insn.result.now c.steps.last_jump
     c.latest_jump-last_jump-in-Event.result
     c.slot-slot.ensures c.insn-insn.ensures c.latest_jump-last_jump-in-Event.ensures in
     replied c.args.program.now c.invariant_law.ensures.sound (opening (arc_value c.args.attrs))
-    c.args.counters.now (string_bytes c.steps.text) (string_bytes c.push_step-in-Event.new.text)
-    c.steps.last_jump c.latest_jump-last_jump-in-Event.result
+    c.args.counters.now c.steps.last_jump c.latest_jump-last_jump-in-Event.result
     (state_of c.steps.run) (state_of c.step.new.self) c.steps.counters c.step.new.pass
     c.in-Event.event
     (c.counts_instructions.ensures c.args.program.now (state_of c.steps.run))
@@ -100,7 +87,6 @@ steps-preserved c =
     c.deref.ensures.value c.in_ok-code.ensures c.shape-shape.ensures)
     c.in-Event.ensures.step)
     c.in-Event.ensures.grew
-    told
     jumped
 
 pub overflow_cast-result-in-Done : goal.overflow_cast-result-in-Done
@@ -131,11 +117,6 @@ returns-in-Done-clause-short c =
 
 pub returns-in-Done-clause-run : goal.returns-in-Done-clause-run
 returns-in-Done-clause-run c =
-    let told = line_is c.args.program.now (state_of c.steps.run) c.shape-shape.result.now
-    c.slot-slot.result c.insn-insn.result.now None (state_of c.step.new.self)
-    (string_bytes c.steps.text) (string_bytes c.push_step-in-Done.new.text)
-    c.shape-shape.ensures c.slot-slot.ensures
-    c.insn-insn.ensures c.in_ok-push_step-in-Done.ensures in
     let is = subst (λ (q : ShapedProgram). step q (state_of c.steps.run)
     ≡ Done c.in-Done.choice) (whole c.args.program.now
     c.deref.result.now c.in_ok-code.code.items c.shape-shape.result.now
@@ -143,8 +124,6 @@ returns-in-Done-clause-run c =
     c.in-Done.ensures.step.0 in
     rw (c.count.ensures, c.in-Done.ensures.grew)
     (ended c.args.program.now (opening (arc_value c.args.attrs))
-    c.args.counters.now (string_bytes c.steps.text)
-    (string_bytes c.push_step-in-Done.new.text) c.steps.last_jump (state_of c.steps.run)
+    c.args.counters.now c.steps.last_jump (state_of c.steps.run)
     (state_of c.step.new.self) c.steps.counters c.in-Done.choice c.steps.invariant
-    is c.in-Done.ensures.step.1
-    told)
+    is c.in-Done.ensures.step.1)

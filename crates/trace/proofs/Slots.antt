@@ -1,6 +1,6 @@
--- The slots of a program, and the line and the jump of a step.
-use Rattle.std.proofs.Common.{◌≡◌, ℕ, zero, suc, ◌+◌, ◌<◌, List, [], ◌∷◌, ◌++◌, length}
-use Rattle.std.proofs.Common.{ap, ◌∙◌, refl, arith, append_assoc}
+-- The slots of a program, and the jump of a step.
+use Rattle.std.proofs.Common.{◌≡◌, ℕ, zero, suc, ◌<◌, [], ◌∷◌, length}
+use Rattle.std.proofs.Common.{ap, ◌∙◌, refl, arith}
 use Rattle.std.proofs.Common.{Option, Some, IsSome}
 use Rattle.std.specs.Option.{option_or}
 use Rattle.std.proofs.lemmas.Bool.{false≢true}
@@ -9,32 +9,14 @@ use Rattle.bpf_insn.specs.Program.{Program, at}
 use Rattle.bpf_semantics.specs.Program.{ShapedProgram, shaped}
 use Rattle.cells.specs.Arrays.{AppShape}
 use Rattle.bpf_semantics.specs.State.{State}
-use Rattle.cells.specs.declared.event.CellEvent.{CellEvent}
 use Rattle.trace.specs.Jumps.{jump_by, jump_between}
-use Rattle.trace.specs.Lines.{step_line, line_between}
 use Rattle.trace.specs.declared.jump.Jump.{Jump}
-
--- a text that is written part by part is written as a whole
-pub gathered : (o w a b c d e : List ℕ)
-    → o ++ w ++ a ++ b ++ c ++ d ++ e ≡ o ++ (w ++ a ++ b ++ c ++ d ++ e)
-gathered o w a b c d e = simp append_assoc refl
 
 pub place_within : (p : Program) (s : ℕ) → IsSome (at p s) → s < length p
 place_within [] s found = absurd (false≢true found)
 place_within (i ∷ p) zero found = omega arith
 place_within (i ∷ p) (suc s) found =
     let less = place_within p s found in omega (arith, less)
-
--- a line with this shape and slot is that of the step
-pub line_is : (p : ShapedProgram) (s : State) (shape : AppShape) (slot : ℕ) (i : Insn)
-    (asked : Option CellEvent) (t : State) (old new : List ℕ)
-    → shape ≡ p.shape → slot ≡ s.slot → at p.code slot ≡ Some i
-    → new ≡ old ++ step_line shape slot i asked t → new ≡ old ++ line_between p s asked t
-line_is p s shape slot i asked t old new of_shape of_slot found grown =
-    let there : at p.code s.slot ≡ Some i = rw of_slot at found in
-    let line : step_line shape slot i asked t ≡ line_between p s asked t =
-    rw (of_shape, of_slot, there) refl in
-    grown ∙ ap (λ (l : List ℕ). old ++ l) line
 
 -- the last jump after an instruction at this slot is that after the step
 pub jump_is : (p : ShapedProgram) (s t : State) (slot : ℕ) (i : Insn) (jump later : Option Jump)
