@@ -1,5 +1,7 @@
 """The page OPEN: what no clause determines, from the `// open:` comments at calls, by crate. Each
-public call has a clause or such a comment; `unclaimed.txt` lists the calls that still lack both."""
+public call has a clause or such a comment. `unclaimed.txt` says the same of the calls that lack both."""
+from functools import cache
+
 from checking.exports import told_crates
 from checking.places import DOCS
 from checking.sources import OPEN
@@ -9,12 +11,18 @@ UNCLAIMED = DOCS / "checking" / "unclaimed.txt"
 MARK = "<!-- docs/check.py --write writes the rest from crates/*/src. -->\n"
 
 
+@cache
+def listed():
+    """What is open of each call that lacks both, by its crate and its name."""
+    return dict(it.split(": ", 1) for it in UNCLAIMED.read_text().splitlines())
+
+
 def left_open(crate):
     """A line for each open thing, with its calls."""
     found = {}
     for name, item, _ in crate.calls():
-        if item.open():
-            found.setdefault(item.open(), []).append(f"`{name}`")
+        if what := item.open() or listed().get(f"{crate.name} {name}"):
+            found.setdefault(what, []).append(f"`{name}`")
     return "".join(f"- {', '.join(calls)}: {what}\n" for what, calls in found.items())
 
 
@@ -47,7 +55,7 @@ def unclaimed():
 
 def new_unclaimed():
     """Public calls that lack both and aren't listed, and listed ones that have one of the two."""
-    found, listed = {*unclaimed()}, {*UNCLAIMED.read_text().splitlines()}
-    yield from (f"{it}: neither a clause nor a comment // open:" for it in sorted(found - listed))
-    for it in sorted(listed - found):
+    found, known = {*unclaimed()}, {*listed()}
+    yield from (f"{it}: neither a clause nor a comment // open:" for it in sorted(found - known))
+    for it in sorted(known - found):
         yield f"docs/checking/unclaimed.txt: {it} has a clause or a comment, or is gone"
