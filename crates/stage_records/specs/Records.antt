@@ -10,7 +10,8 @@ use Rattle.serde_json.specs.Find.{get, as_array, as_bool, as_number, as_str, as_
 use Rattle.stage_records.specs.Steps.{ReplacedFile, StagingStep}
 use Rattle.stage_records.specs.declared.record_reader.Facts.{Facts}
 use Rattle.stage_records.specs.declared.step.StepAction.{StepAction}
-use Rattle.stage_records.specs.declared.step.StepAction.TheVariants.{Halt, Put, Raise, Resume}
+use Rattle.stage_records.specs.declared.step.StepAction.TheVariants.{Halt, HaltRelease, Put}
+use Rattle.stage_records.specs.declared.step.StepAction.TheVariants.{Raise, Resume}
 
 -- ---- members
 
@@ -65,6 +66,12 @@ abbrev pub or_else : {A : Type 0} → Option A → Option A → Option A
 or_else (Some x) other = Some x
 or_else None other = other
 
+-- {"appid":"player","version":"2.1"}
+abbrev pub release_of : Data → Option StepAction
+release_of d =
+    option_and_then (λ appid. option_map (λ version. HaltRelease appid version)
+    (text_in (codes "version") d)) (text_in (codes "appid") d)
+
 -- {"appid":"player","buckets":2500}
 abbrev pub raise_of : Data → Option StepAction
 raise_of d =
@@ -86,13 +93,15 @@ resume_of d =
     option_and_then (λ appid. option_map (λ share. Resume appid share)
     (share_in (codes "buckets") d)) (text_in (codes "appid") d)
 
--- {"halt":"player"}, {"raise":{..}}, {"resume":{..}} or {"put":"/srv/checkout/current.toml"}
+-- {"halt":"player"}, {"halt_release":{..}}, {"raise":{..}}, {"resume":{..}} or
+-- {"put":"/srv/checkout/current.toml"}
 abbrev pub action_of : Data → Option StepAction
 action_of d =
     or_else (option_map (λ appid. Halt appid) (text_in (codes "halt") d)) (
+    or_else (option_and_then release_of (get (codes "halt_release") d)) (
     or_else (option_and_then raise_of (get (codes "raise") d)) (
     or_else (option_and_then resume_of (get (codes "resume") d))
-    (option_map (λ manifest. Put manifest) (text_in (codes "put") d))))
+    (option_map (λ manifest. Put manifest) (text_in (codes "put") d)))))
 
 abbrev pub is_two : Option ℕ → Bool
 is_two None = false

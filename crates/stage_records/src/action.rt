@@ -7,6 +7,11 @@ pub enum StageAction<'a> {
     Halt {
         appid: &'a str,
     },
+    /// Takes the statements that offer a version out of the app's rule.
+    HaltRelease {
+        appid: &'a str,
+        version: &'a str,
+    },
     /// Changes the number of buckets in the app's rule, to 0 to 10000.
     Raise {
         appid: &'a str,

@@ -132,6 +132,18 @@ fn files_of(alloc: Global, values: &[Value]) -> Result<Option<Vec<ReplacedFile>>
 
 // ---- a step
 
+fn release_of(alloc: Global, value: &Value) -> Result<Option<StepAction>, AllocError>
+    ensures { IfOk result (λ action. action ≡ specs.release_of (view value.now)) }
+{
+    let Some(appid) = owned_in(alloc, value, "appid")? else {
+        return Ok(None);
+    };
+    match owned_in(alloc, value, "version")? {
+        Some(version) => Ok(Some(StepAction::HaltRelease { appid, version })),
+        None => Ok(None),
+    }
+}
+
 fn raise_of(alloc: Global, value: &Value) -> Result<Option<StepAction>, AllocError>
     ensures { IfOk result (λ action. action ≡ specs.raise_of (view value.now)) }
 {
@@ -175,6 +187,11 @@ fn action_of(alloc: Global, value: &Value) -> Result<Option<StepAction>, AllocEr
 {
     if let Some(appid) = owned_in(alloc, value, "halt")? {
         return Ok(Some(StepAction::Halt { appid }));
+    }
+    if let Some(release) = value.get("halt_release")
+        && let Some(action) = release_of(alloc, release)?
+    {
+        return Ok(Some(action));
     }
     if let Some(raise) = value.get("raise")
         && let Some(action) = raise_of(alloc, raise)?

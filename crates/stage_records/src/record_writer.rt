@@ -46,10 +46,21 @@ fn share_value(alloc: Global, appid: &str, buckets: Option<u32>) -> Result<Value
     object.finish()
 }
 
+fn release_value(alloc: Global, appid: &str, version: &str) -> Result<Value, AllocError> {
+    let mut object = ObjectBuilder::new(alloc);
+    object.put_text("appid", appid);
+    object.put_text("version", version);
+    object.finish()
+}
+
 fn action_value(alloc: Global, action: &StepAction) -> Result<Value, AllocError> {
     let mut object = ObjectBuilder::new(alloc);
     match action {
         StepAction::Halt { appid } => object.put_text("halt", appid.as_str()),
+        StepAction::HaltRelease { appid, version } => object.put(
+            "halt_release",
+            release_value(alloc, appid.as_str(), version.as_str()),
+        ),
         StepAction::Raise { appid, buckets } => {
             object.put("raise", share_value(alloc, appid.as_str(), Some(*buckets)))
         }

@@ -13,6 +13,13 @@ fn is_same_action(action: &StepAction, other: &StepAction) -> bool
             own.as_str() == appid.as_str()
         }
         (
+            StepAction::HaltRelease { appid, version },
+            StepAction::HaltRelease {
+                appid: own,
+                version: other,
+            },
+        ) => own.as_str() == appid.as_str() && other.as_str() == version.as_str(),
+        (
             StepAction::Raise { appid, buckets },
             StepAction::Raise {
                 appid: own,

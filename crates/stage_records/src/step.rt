@@ -11,6 +11,8 @@ use std::marker::Model;
 pub enum StepAction {
     /// Halts an app.
     Halt { appid: Text },
+    /// Takes the statements that offer a version out of an app's rule.
+    HaltRelease { appid: Text, version: Text },
     /// Changes the number of the threshold in an app's rule.
     Raise { appid: Text, buckets: u32 },
     /// Puts what an app had before its halt in place again; its rule has this number of buckets, if
