@@ -168,7 +168,7 @@ fn later(one: Option<u32>, other: Option<u32>) -> Option<u32>
     }
 }
 
-/// The latest of the first days for which the tests of this day hold, or fail behind a `not`.
+/// The latest of the first days for which the tests of this day hold, or fail if a `not` follows.
 pub(crate) fn wanted_day(day: DayOf, steps: &[Step]) -> Option<u32>
     ensures { result ≡ specs.wanted_day day steps.now }
 {
