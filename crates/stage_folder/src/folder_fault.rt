@@ -91,11 +91,15 @@ impl fmt::Display for FolderFault {
     fn fmt<W: fmt::Write>(&self, f: &mut fmt::Formatter<W>) -> fmt::Result {
         match self {
             FolderFault::NoRecord(number) => write!(f, ".stage/{number}.json {NO_RECORD}"),
+            FolderFault::System(ErrorKind::Uncategorized) => f.write_str(NO_ACCESS),
             FolderFault::System(kind) => write!(f, "{kind}"),
             fault => f.write_str(sentence(*fault)),
         }
     }
 }
+
+// What the system has no kind for, as a device that fails, or too many open files.
+const NO_ACCESS: &str = "the system can't read or write it: its log may say why, as dmesg does";
 
 const NO_RECORD: &str = "is no record of this step: mend it, or move it away and restore by hand";
 
