@@ -1,1 +1,1 @@
-mod Reads
+mod Then

@@ -5,7 +5,7 @@
 #![tactic(auto)]
 
 // How it works. A halt is sent to the servers before a file is read (`server_halts.rt`). Each
-// server's state is compared with the recorded steps (`survey.rt`), by the digest of what a step
+// server's state is compared with the recorded steps (`surveying.rt`), by the digest of what a step
 // left (`earlier_files.rt`). An action but a halt stops if a server serves something else than is
 // in place (`drift.rt`). Once the files are changed, each server loads the manifest (`loads.rt`).
 // Its reply is noted (`load_notes.rt`), by which a status knows what an older server serves
@@ -36,7 +36,7 @@ mod serves;
 mod shares;
 mod status;
 mod step_lines;
-mod survey;
+mod surveying;
 
 pub use collected::{app_named, collected_at};
 pub use drift::{push_serves, stop_if_drifted};
@@ -52,4 +52,4 @@ pub use server_halts::{apps_halted, apps_lifted, halt_again, halt_at_servers};
 pub use serves::{Serves, Surveyed};
 pub use status::push_status;
 pub use step_lines::{now_of, push_step, time_of};
-pub use survey::survey;
+pub use surveying::survey;

@@ -59,7 +59,7 @@ impl<'a, L: Files> Files for WithReplaced<'a, L> {
 
     ghost failed = { λ files. L.failed files.files };
 
-    #[tactic(auto, using(crate::proofs::Reads::gives_replaced, crate::proofs::Reads::reads_other))]
+    #[tactic(auto, using(crate::proofs::Then::gives_replaced, crate::proofs::Then::reads_other))]
     fn bytes(&mut self, name: &str) -> Result<Vec<u8>, ResourceFault> {
         match file_named(self.replaced, name) {
             Some(file) => match bytes_of(self.alloc, file, self.is_after) {
@@ -77,7 +77,7 @@ impl<'a, L: Files> Files for WithReplaced<'a, L> {
 
 /// Gathers a manifest's bytes and the files next to its path, of which a step's are as after it,
 /// or else as before it. A fault doesn't depend on what the files have.
-#[tactic(auto, using(crate::proofs::Reads::of_refusal))]
+#[tactic(auto, using(crate::proofs::Then::of_refusal))]
 pub fn sources_with<D: Disk>(
     alloc: Global,
     disk: &D,

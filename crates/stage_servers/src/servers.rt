@@ -11,7 +11,7 @@ use crate::outcome::Lines;
 use crate::quota_lines::push_quotas;
 use crate::served::{InPlace, Served, are_both};
 use crate::serves::{Serves, Surveyed, server_at};
-use crate::survey::survey;
+use crate::surveying::survey;
 use bounded_files::Disk;
 use cell_assignments::read_assignments;
 use load::{AppSources, CollectedManifest, judge_app};
