@@ -2,3 +2,6 @@ mod Runs
 mod Several
 mod HaltedRule
 mod HaltedProgram
+mod ReleaseMeaning
+mod LeavingOut
+mod KnownOffers

@@ -1,6 +1,6 @@
 -- Which halts are in force, and which of them another manifest lifts.
 use Rattle.std.specs.Prelude.{ℕ, List, [], ◌∷◌, filter_map, find, Option, Some, None, is_some}
-use Rattle.std.specs.Prelude.{Bool, false, not, ◌&&◌, if◌then◌else◌}
+use Rattle.std.specs.Prelude.{Bool, true, false, not, ◌&&◌, ◌||◌, if◌then◌else◌}
 use Rattle.std.specs.List.{list_any}
 use Rattle.std.specs.Option.{option_or}
 use Rattle.std.specs.Str.{bytes_eq}
@@ -8,7 +8,7 @@ use Rattle.load.specs.Kept.{whole_file}
 use Rattle.load.specs.declared.sources.AppSources.{AppSources}
 use Rattle.stage_records.specs.Steps.{StagingStep}
 use Rattle.stage_records.specs.declared.step.StepAction.{StepAction}
-use Rattle.stage_records.specs.declared.step.StepAction.TheVariants.{Halt}
+use Rattle.stage_records.specs.declared.step.StepAction.TheVariants.{Halt, HaltRelease}
 use Rattle.staging.specs.Halts.{halting_file}
 
 -- the app of a halt
@@ -64,12 +64,36 @@ lifted_halt steps current next = find (lifts current next) (halted_apps steps)
 
 -- ---- the last halt
 
--- a step halts this app, and isn't undone
+-- the app that an action halts, or of which it halts a release
+abbrev pub app_of_any_halt : StepAction → Option (List ℕ)
+app_of_any_halt (Halt appid) = Some appid
+app_of_any_halt (HaltRelease appid version) = Some appid
+app_of_any_halt action = None
+
+-- a step halts this app or a release, and isn't undone
 abbrev pub is_halt_of : StagingStep → (appid : List ℕ) → Bool
-is_halt_of step appid = has_bytes (halted_app step) appid
+is_halt_of step appid = not step.is_undone && has_bytes (app_of_any_halt step.action) appid
 
 -- the last step that does, of the later ones or else this one
 abbrev pub last_halt : List StagingStep → (appid : List ℕ) → Option StagingStep
 last_halt [] appid = None
 last_halt (step ∷ steps) appid = option_or (last_halt steps appid)
     (if is_halt_of step appid then Some step else None)
+
+-- this action halts a release
+abbrev pub is_of_release : StepAction → Bool
+is_of_release (HaltRelease appid version) = true
+is_of_release action = false
+
+-- a step halts a release
+abbrev pub halts_release : Option StagingStep → Bool
+halts_release None = false
+halts_release (Some step) = is_of_release step.action
+
+-- the last halt of an app is that of a release
+abbrev pub is_release_halted : List StagingStep → (appid : List ℕ) → Bool
+is_release_halted steps appid = halts_release (last_halt steps appid)
+
+-- an app's halt is in force, or its last one is that of a release
+abbrev pub is_resumable : List StagingStep → List AppSources → (appid : List ℕ) → Bool
+is_resumable steps apps appid = is_in_force steps apps appid || is_release_halted steps appid

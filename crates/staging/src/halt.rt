@@ -18,6 +18,7 @@ pub(crate) fn halted_app(step: &StagingStep) -> Option<&str>
     }
     match &step.action {
         StepAction::Halt { appid } => Some(appid.as_str()),
+        StepAction::HaltRelease { .. } => None,
         StepAction::Raise { .. } | StepAction::Resume { .. } | StepAction::Put { .. } => None,
     }
 }

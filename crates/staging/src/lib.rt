@@ -8,19 +8,31 @@
 //
 // The text of a raised rule is made without a contract and then read back by the parser of rules.
 // What is read is compared with what is wanted, and a text that doesn't read back isn't returned.
-// So no lemma is about texts.
+// So no lemma is about texts. The text of a rule without the statements that offer a version is
+// made and read back in the same way.
 
 mod cut;
 mod halt;
 mod halt_of_app;
 mod halting;
+mod known_offers;
+mod leaving_out;
+mod lifting;
+mod offers;
 mod raise_fault;
 mod raising;
+mod release_halt;
+mod same_rule;
 mod same_test;
 mod threshold;
+mod without_fault;
 
 pub use halt::{is_in_force, lifted_halt, may_offer, surely_offers};
-pub use halt_of_app::last_halt;
+pub use halt_of_app::{app_of_any_halt, is_release_halted, is_resumable, last_halt};
 pub use halting::halting_file;
+pub use known_offers::known_offer;
+pub use lifting::lifted_app;
 pub use raise_fault::RaiseFault;
 pub use raising::raised_rule;
+pub use release_halt::rule_without;
+pub use without_fault::WithoutFault;
