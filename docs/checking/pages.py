@@ -11,7 +11,7 @@ from pathlib import Path
 from checking.places import CHANGELOG, CRATES, HELP, OPEN, README, ROOT, VERSION, pages
 
 # README is for visitors.
-MOST_LINES, MOST_WORDS = 130, 1250
+MOST_LINES, MOST_WORDS = 120, 1200
 LOGIC = re.compile(r"\blogic ([0-9a-f]+)")
 # Not a sentence: code, tables, headings, and the targets of links.
 NO_SENTENCE = re.compile(r"^```.*?^```|^\|.*?$|^#.*?$|^ {4}.*?$|(?<=\])\([^)]*\)", re.M | re.S)

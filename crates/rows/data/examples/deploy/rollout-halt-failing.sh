@@ -21,7 +21,7 @@ grep -qxF "$app $failing" "$halted" && exit 0
 # The servers that answer: after an upgrade by rollout@9 that is the one at 8091.
 servers=
 for port in 8081 8091; do
-    ! rollout show --operator $port > /dev/null 2>&1 || servers="$servers --operator $port"
+    ! timeout 15 rollout show --operator $port > /dev/null 2>&1 || servers="$servers --operator $port"
 done
 # At the servers first, as that takes no file; then in the files, which a restart reads.
 # shellcheck disable=SC2086
