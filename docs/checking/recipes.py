@@ -68,6 +68,8 @@ def lost_files():
             yield f"{PAGE.name}: {title}: it has no search"
             continue
         found, exceptions = {*files_found(search[1])}, (search[2] or "").split()
+        if not found:
+            yield f"{PAGE.name}: {title}: nothing has {search[1]}"
         for it in sorted(found - named):
             if not is_excepted(it, exceptions):
                 yield f"{PAGE.name}: {title}: {it} has {search[1]}, and the recipe doesn't name it"
