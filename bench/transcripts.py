@@ -14,7 +14,7 @@ from operating import BUILT, Day
 
 PAGES_OF_COMMANDS = [f"docs/{it}.md" for it in ("PROGRAM", "RULES", "DECISIONS", "VERIFIER")] + ["README.md"]
 C_PAGE = ROOT / "docs" / "C.md"
-BLOCK = re.compile(r"^```\n(\$ (?:\./rollout|cat) .*?)^```$", re.M | re.S)
+BLOCK = re.compile(r"^```\n(\$ (?:\./rollout|cat|curl) .*?)^```$", re.M | re.S)
 COMMAND = re.compile(r"^\$ (.*)\n((?:(?!\$ ).*\n)*)", re.M)
 SERVERS = re.compile(r"server\.log| serve | load | stop |^curl ")
 # The commands whose files are in bench/pages, in the order of PROGRAM, with their folders.
