@@ -1,23 +1,30 @@
--- What is noted stays noted, and is covered once the ceilings are above it.
+-- What is noted stays noted.
 use Rattle.std.proofs.Common.{◌≡◌, ℕ, ◌+◌, ◌-◌, ◌^◌, ◌<◌, ◌≤◌, min, List, [], ◌∷◌, ◌++◌}
 use Rattle.std.proofs.Common.{length, drop, sym, ap, subst, ◌∙◌, arith}
-use Rattle.std.specs.Prelude.{All, IsTrue, slice_index}
+use Rattle.std.specs.Prelude.{All, slice_index}
 use Rattle.std.proofs.lemmas.List.{drop-append-le, length-append}
 use Rattle.std.proofs.lemmas.List.Elements.{All-push, All-weaker}
 use Rattle.cells.specs.declared.event.CellEvent.{CellEvent}
-use Rattle.ceilings.specs.declared.rule.Raised.{Raised}
-use Rattle.ceilings.specs.Rule.{raised_in}
-use Rattle.kept_cells.specs.Tickets.{is_ticket, AreCovered}
-use Rattle.kept_cells.specs.Noted.{NotesView, IsNoted, Notes, KeepsNotes, NotesOneMore, AreReached}
+use Rattle.kept_cells.specs.Noted.{NotesView, IsNoted, Notes, KeepsNotes, NotesOneMore}
 
 below_more : (reply a b : ℕ) → reply < a → a ≤ b → reply < b
 below_more reply a b lt le = omega (arith, lt, le)
 
+some : (reply a : ℕ) → reply < a → 0 < a
+some reply a lt = omega (arith, lt)
+
+least_more : (reply a b : ℕ) → a ≤ reply → b ≤ a → b ≤ reply
+least_more reply a b le less = omega (arith, le, less)
+
 one_kept : (old new : NotesView) → KeepsNotes old new → (e : CellEvent) → IsNoted old e
     → IsNoted new e
 one_kept old new keeps e noted is =
-    below_more e.reply (slice_index old.above e.cell) (slice_index new.above e.cell) (noted is)
-    (keeps.above e.cell)
+    let was = noted is in
+    let above = below_more e.reply (slice_index old.above e.cell) (slice_index new.above e.cell) was.0
+    (keeps.above e.cell) in
+    let least = least_more e.reply (slice_index old.least e.cell) (slice_index new.least e.cell) was.1
+    (keeps.least e.cell (some e.reply (slice_index old.above e.cell) was.0)) in
+    (above, least)
 
 all_kept : (old new : NotesView) → KeepsNotes old new → (events : List CellEvent)
     → All (IsNoted old) events → All (IsNoted new) events
@@ -57,18 +64,3 @@ one_more old new events e notes more =
           subst (λ (n : ℕ). All (IsNoted new) (drop n (events ++ e ∷ []))) (sym from)
           (subst (All (IsNoted new)) (sym (drop-append-le old.from events (e ∷ []) le)) all);
     }
-
--- ---- what is noted is covered once the ceilings are above it
-
-pub covered : (n : NotesView) (events : List CellEvent) (mark : ℕ) (raised : List Raised)
-    → Notes n events → n.from ≡ mark → mark < 2 ^ 64 - 1 → AreReached n.above raised
-    → AreCovered raised (drop mark events)
-covered n events mark raised notes from less reached =
-    All-weaker (IsNoted n)
-    (λ (e : CellEvent). IsTrue (is_ticket e) → e.reply < raised_in e.cell raised)
-    (λ e noted is.
-    below_more e.reply (slice_index n.above e.cell) (raised_in e.cell raised) (noted is)
-    (reached e.cell))
-    (drop mark events)
-    (subst (λ (k : ℕ). All (IsNoted n) (drop k events)) from
-    (notes.noted (subst (λ (k : ℕ). k < 2 ^ 64 - 1) (sym from) less)))

@@ -1,10 +1,12 @@
 //! What the workers and the store share: the ceilings, and what is wanted of the store.
 
-ghost use Rattle.std.specs.Prelude.{◌≡◌, ◌<◌, ◌≤◌, ◌++◌, [], ◌∷◌, IfOk};
+ghost use Rattle.std.specs.Prelude.{◌≡◌, ◌<◌, ◌≤◌, ◌-◌, ◌^◌, ◌++◌, [], ◌∷◌, IfOk};
 ghost use Rattle.std.specs.Arc.{arc_value};
 ghost use mathlib.Core.List.{IsPrefix};
 ghost use Rattle.ceilings.specs.Rule.{raised_as, raised_in};
 ghost use Rattle.ceilings.specs.Seats.{IsAt};
+ghost use Rattle.kept_cells.specs.Tickets as specs;
+ghost use Rattle.kept_cells.specs.Tickets.{IsPast, limit_word};
 
 use crate::wanted::Wanted;
 use ceilings::{Ceilings, Reader, Writer};
@@ -14,8 +16,8 @@ use std::marker::Model;
 use std::sync::{Arc, Wait};
 use std::time::Duration;
 
-/// A ceiling for each 64-bit cell, and what is wanted of the store. In contracts it is the table
-/// of the ceilings.
+/// A ceiling and a limit for each 64-bit cell, and what is wanted of the store. In contracts it is
+/// the table of the ceilings, which has the limits, too.
 #[derive(Drop)]
 pub struct Kept {
     ceilings: Ceilings,
@@ -30,18 +32,18 @@ impl Model for Kept {
 
     ghost view = { λ k. k.ceilings };
 
-    ghost invariant = { λ k. k.ceilings.words ≡ 4096 };
+    ghost invariant = { λ k. k.ceilings.words ≡ 8192 };
 }
 
 impl Kept {
-    /// Ceilings that are all 0, and the right to raise them.
+    /// Ceilings that are all 0, without limits, and the right to raise them and to set limits.
     // open: whether an allocation fails.
     pub fn new(alloc: Global) -> Result<(Arc<Kept>, Writer), AllocError>
         ensures own { IfOk result (λ made. IsAt (arc_value made.0) made.1) }
         ensures none { IfOk result (λ made. made.1.raised ≡ []) }
     {
         let wanted = Wanted::new(alloc)?;
-        let (ceilings, writer) = Ceilings::new(alloc, CellNo::FIRST_NARROW as usize)?;
+        let (ceilings, writer) = Ceilings::new(alloc, 2 * CellNo::FIRST_NARROW as usize)?;
         let Ok(kept) = Arc::new(alloc, Kept { ceilings, wanted }) else {
             return Err(AllocError);
         };
@@ -63,6 +65,19 @@ impl Kept {
         ensures raised { writer.new.raised ≡ writer.old.raised ++ raised_as cell number ∷ [] }
     {
         self.ceilings.raise(writer, cell, number);
+    }
+
+    /// Sets the limit of a 64-bit cell: a ticket from it on needs no ceiling. A limit is never set
+    /// higher.
+    pub fn set_limit(&self, writer: &mut Writer, cell: usize, limit: u64)
+        requires own { IsAt self.now writer.old }
+        requires cell { cell < 4096 }
+        ensures own { IsAt self.now writer.new }
+        ensures raised { writer.new.raised
+            ≡ writer.old.raised ++ raised_as (limit_word cell) (2 ^ 64 - 1 - limit) ∷ [] }
+    {
+        self.ceilings
+            .raise(writer, limit_word(cell), u64::MAX - limit);
     }
 
     /// Law: a reader knows only raises that the writer has made.
@@ -109,6 +124,18 @@ impl Kept {
         self.ceilings.look(reader, cell)
     }
 
+    /// The limit of a 64-bit cell; 2^64 - 1 if none was set.
+    // open: that it is the one that was set: tests.
+    pub(crate) fn limit(&self, reader: &mut Reader, cell: usize) -> u64
+        requires own { IsAt self.now reader.old }
+        requires cell { cell < 4096 }
+        ensures own { IsAt self.now reader.new }
+        ensures onwards { IsPrefix reader.old.raised reader.new.raised }
+        ensures past { IsPast reader.new.raised cell result }
+    {
+        u64::MAX - self.ceilings.look(reader, limit_word(cell))
+    }
+
     pub(crate) fn want(&self, cell: usize, number: u64) {
         self.wanted.want(cell, number);
     }
@@ -116,4 +143,12 @@ impl Kept {
     pub(crate) fn is_failing(&self) -> bool {
         self.wanted.is_failing()
     }
+}
+
+// The word that has a 64-bit cell's limit.
+fn limit_word(cell: usize) -> usize
+    requires { cell < 4096 }
+    ensures { result ≡ specs.limit_word cell }
+{
+    CellNo::FIRST_NARROW as usize + cell
 }

@@ -91,7 +91,7 @@ impl KeptPass {
         }
     }
 
-    /// Whether the ceilings are above each ticket since the mark. False if none are noted from it.
+    /// Whether each ticket since the mark is covered. False if none are noted from it.
     pub(crate) fn is_covered(&self, mark: u64, kept: &Kept, reader: &mut Reader) -> bool
         requires own { IsAt kept.now reader.old }
         ensures own { IsAt kept.now reader.new }

@@ -15,28 +15,31 @@ use ceilings::Reader;
 use cover::Cover;
 use std::sync::Arc;
 use std::thread;
-use std::time::{Clock, Duration};
+use std::time::{Clock, Duration, Instant};
 
-/// How often a reply looks at the ceilings, with a millisecond between two looks.
-const LOOKS: u32 = 2000;
+/// The most milliseconds for which a reply waits. It looks at the ceilings after each.
+const MOST_MILLIS: u32 = 2000;
 
-/// The cover of cells with the ceilings of a store. It waits for at most two seconds, and for no
-/// time once commits fail. Of cells without a store each reply may be sent at once.
+/// The cover of cells with the ceilings of a store. A reply waits for at most two seconds, and for
+/// no time once commits fail. Of cells without a store each reply may be sent at once.
 #[derive(Drop)]
 pub struct StoreCover<'a, H> {
     clock: &'a H,
     kept: Option<Arc<Kept>>,
+    /// How long a reply waits at most, but for two seconds.
+    most: Duration,
 }
 
 impl<'a, H: Clock> StoreCover<'a, H> {
-    /// The cover of cells with these ceilings, or without any.
-    pub fn of(clock: &'a H, kept: Option<Arc<Kept>>) -> StoreCover<'a, H>
+    /// The cover of cells with these ceilings, or without any. A reply waits for at most this time.
+    // open: how long it waits: a test.
+    pub fn of(clock: &'a H, kept: Option<Arc<Kept>>, most: Duration) -> StoreCover<'a, H>
         ensures { result.kept ≡ kept }
     {
-        StoreCover { clock, kept }
+        StoreCover { clock, kept, most }
     }
 
-    // Waits until each ticket since the mark is below its ceiling.
+    // Waits until each ticket since the mark is covered.
     fn wait(&self, kept: &Kept, pass: &KeptPass, mark: u64) -> Option<Reader>
         ensures own { IfSome result (IsAt kept.now) }
         ensures mark { IfSome result (λ _. mark < 2 ^ 64 - 1) }
@@ -47,9 +50,13 @@ impl<'a, H: Clock> StoreCover<'a, H> {
             return Some(reader);
         }
         pass.want(kept);
-        for _look in 0..LOOKS {
+        let end = self.end();
+        for _look in 0..MOST_MILLIS {
             if kept.is_failing() {
                 return None;
+            }
+            if is_past(self.clock, end) {
+                break;
             }
             thread::sleep(self.clock, Duration::from_millis(1));
             if pass.is_covered(mark, kept, &mut reader) {
@@ -59,6 +66,20 @@ impl<'a, H: Clock> StoreCover<'a, H> {
         // The device may hang, so the next replies don't wait for it.
         kept.set_failing(true);
         None
+    }
+
+    // When a wait that begins now ends. Two seconds are that many sleeps at least.
+    fn end(&self) -> Option<Instant> {
+        let now = Instant::now(self.clock).ok()?;
+        now.checked_add(self.most.min(Duration::from_millis(u64::from(MOST_MILLIS))))
+    }
+}
+
+// Whether a moment is past. False if it isn't known, or the clock can't be read.
+fn is_past<H: Clock>(clock: &H, moment: Option<Instant>) -> bool {
+    match (moment, Instant::now(clock)) {
+        (Some(moment), Ok(now)) => moment <= now,
+        _ => false,
     }
 }
 

@@ -1,15 +1,14 @@
 //! What a pass has noted of its tickets since the last mark.
 
-ghost use Rattle.std.specs.Prelude.{◌≡◌, ◌<◌, ◌≤◌, ◌-◌, ◌^◌, max, IfOk, IsTrue};
+ghost use Rattle.std.specs.Prelude.{◌≡◌, ℕ, ◌<◌, ◌≤◌, ◌-◌, ◌^◌, max, IfOk, IsTrue};
 ghost use Rattle.std.specs.Prelude.{List, [], ◌∷◌, ◌++◌, drop, slice_index, slice_set};
 ghost use mathlib.Core.List.{IsPrefix};
 ghost use Rattle.cells.specs.Events.{event, AreZeros};
 ghost use Rattle.cells.specs.declared.event.CellEvent.{CellEvent};
-ghost use Rattle.ceilings.specs.Rule.{raised_in};
 ghost use Rattle.ceilings.specs.Seats.{IsAt};
 ghost use Rattle.shared_cells.specs.Quotas.{adds_one};
 ghost use Rattle.kept_cells.specs.Tickets.{is_ticket, AreCovered};
-ghost use Rattle.kept_cells.specs.Noted.{AreNotes, AreReached, Notes, NotesOneMore};
+ghost use Rattle.kept_cells.specs.Noted.{AreNotes, AreReached, IsReached, Notes, NotesOneMore};
 
 use crate::kept::Kept;
 use ceilings::{Reader, ceilings_grow};
@@ -28,6 +27,8 @@ const NEAR: u64 = 4;
 #[derive(Drop)]
 pub(crate) struct TicketNotes {
     above: Vec<u64>,
+    /// The least ticket of each cell that has tickets.
+    least: Vec<u64>,
     low: usize,
     high: usize,
     from: u64,
@@ -35,13 +36,20 @@ pub(crate) struct TicketNotes {
 }
 
 impl Model for TicketNotes {
+    ghost use Rattle.std.specs.Prelude.{◌≡◌, length};
     ghost use Rattle.kept_cells.specs.Noted.{AreNotes, NotesView};
 
     ghost Value = { NotesView };
 
-    ghost view = { λ n. record { above = n.above.items; from = n.from; count = n.count } };
+    ghost view = { λ n. record {
+      above = n.above.items;
+      least = n.least.items;
+      from = n.from;
+      count = n.count;
+    } };
 
-    ghost invariant = { λ n. AreNotes n.above.items n.low n.high };
+    ghost invariant = { λ n.
+        AreNotes n.above.items n.low n.high × (length n.least.items ≡ 4096) };
 }
 
 impl TicketNotes {
@@ -50,8 +58,10 @@ impl TicketNotes {
         ensures { IfOk result (λ n. Notes n []) }
     {
         let above = zeros(alloc, CellNo::FIRST_NARROW as usize)?;
+        let least = zeros(alloc, CellNo::FIRST_NARROW as usize)?;
         Ok(TicketNotes {
             above,
+            least,
             low: CellNo::FIRST_NARROW as usize,
             high: 0,
             from: 0,
@@ -71,9 +81,25 @@ impl TicketNotes {
         ensures { NotesOneMore self.old (event cell.number op reply) self.new }
     {
         if is_ticket(cell, op, reply) {
+            self.note_least(cell.index(), reply);
             self.note_number(cell.index(), reply + 1);
         }
         self.count = self.count.saturating_add(1);
+    }
+
+    // Notes a ticket of a cell, if it is the least one.
+    fn note_least(&mut self, cell: usize, ticket: u64)
+        requires { cell < 4096 }
+        ensures ticket { slice_index self.new.least cell ≤ ticket }
+        ensures lower { (c : ℕ) → 0 < slice_index self.old.above c
+            → slice_index self.new.least c ≤ slice_index self.old.least c }
+        ensures above { self.new.above ≡ self.old.above }
+        ensures from { self.new.from ≡ self.old.from }
+        ensures count { self.new.count ≡ self.old.count }
+    {
+        let is_first = self.above[cell] == 0;
+        let before = self.least[cell];
+        self.least[cell] = if is_first { ticket } else { ticket.min(before) };
     }
 
     // Notes a number for a cell, unless a greater one is noted.
@@ -81,6 +107,7 @@ impl TicketNotes {
         requires { cell < 4096 }
         ensures above { self.new.above
             ≡ slice_set self.old.above cell (max number (slice_index self.old.above cell)) }
+        ensures least { self.new.least ≡ self.old.least }
         ensures from { self.new.from ≡ self.old.from }
         ensures count { self.new.count ≡ self.old.count }
     {
@@ -103,7 +130,8 @@ impl TicketNotes {
         self.count
     }
 
-    /// Whether the ceilings are above each ticket since the mark. False if the notes begin elsewhere.
+    /// Whether each ticket since the mark is below its ceiling, or past its limit. False if the notes
+    /// begin elsewhere.
     pub(crate) fn is_covered(&self, mark: u64, kept: &Kept, reader: &mut Reader) -> bool
         requires own { IsAt kept.now reader.old }
         ensures own { IsAt kept.now reader.new }
@@ -125,16 +153,17 @@ impl TicketNotes {
         self.from == mark && mark < u64::MAX
     }
 
-    // Whether each ceiling is at least the cell's number.
+    // Whether each ceiling is at least the cell's number, or the tickets are past the limit.
     fn is_reached(&self, kept: &Kept, reader: &mut Reader) -> bool
         requires own { IsAt kept.now reader.old }
         ensures own { IsAt kept.now reader.new }
-        ensures reached { IsTrue result → AreReached self.now.above reader.new.raised }
+        ensures reached { IsTrue result
+            → AreReached self.now.above self.now.least reader.new.raised }
     {
         ceilings_grow();
         for cell in self.low..self.high {
             let above = self.above[cell];
-            if above > 0 && !is_cell_reached(kept, reader, cell, above) {
+            if above > 0 && !is_cell_reached(kept, reader, cell, above, self.least[cell]) {
                 return false;
             }
         }
@@ -153,17 +182,18 @@ impl TicketNotes {
     }
 }
 
-// Whether a cell's ceiling is at least this number. If it is near, a higher one is wanted.
-fn is_cell_reached(kept: &Kept, reader: &mut Reader, cell: usize, above: u64) -> bool
+// Whether a cell's ceiling is at least this number, or else its limit at most the other. If the
+// ceiling is near, a higher one is wanted.
+fn is_cell_reached(kept: &Kept, reader: &mut Reader, cell: usize, above: u64, least: u64) -> bool
     requires own { IsAt kept.now reader.old }
     requires cell { cell < 4096 }
     ensures own { IsAt kept.now reader.new }
     ensures onwards { IsPrefix reader.old.raised reader.new.raised }
-    ensures reached { IsTrue result → above ≤ raised_in cell reader.new.raised }
+    ensures reached { IsTrue result → IsReached reader.new.raised cell above least }
 {
     let ceiling = kept.look(reader, cell);
     if ceiling < above {
-        return false;
+        return kept.limit(reader, cell) <= least;
     }
     if ceiling - above < NEAR {
         kept.want(cell, above);
