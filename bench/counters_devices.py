@@ -16,6 +16,7 @@ from counters_text import read
 from hosts import Wrong, called
 
 QUOTA = 10_000
+FEW = 100
 # A reply that takes a place waits two seconds for the file.
 WAITS = (1.5, 8.0)
 # Takes until one is withheld: at most this many are covered ahead of use.
@@ -118,6 +119,28 @@ def full_disk(program, folder):
         return said
 
 
+def used_up(program, folder):
+    """A quota's places that the file doesn't cover get 503 while the disk is full; each request after
+    its last place is answered, without an offer."""
+    with tmpfs(folder / "disk") as place:
+        rig = Rig(program, folder, FEW, place)
+        with opened(rig.server()) as server:
+            rig.take(server)
+            with filled(place):
+                while rig.tally.takes() < FEW:
+                    rig.take(server)
+                withheld = rig.tally.withheld
+                for _ in range(20):
+                    is_offer, seconds = rig.take(server)
+                    if is_offer is not False or seconds > PROMPT:
+                        raise Wrong(f"after the last place: {is_offer} after {seconds:.1f} s")
+            rig.stopped(server)
+        rig.exact()
+    if not withheld or rig.tally.offers + withheld != FEW:
+        raise Wrong(f"of a quota of {FEW}: {vars(rig.tally)}")
+    return f"{rig.tally.offers} offers, {withheld} replies by 503, then {rig.tally.none} answered"
+
+
 def rig_in_folder(program, folder):
     """A rig whose file is in a folder of its own."""
     (folder / "place").mkdir()
@@ -190,6 +213,23 @@ def hangs(program, folder):
     return f"{said} time after {max(waits):.1f} s, others within {longest:.2f} s"
 
 
+def hangs_briefly_limited(program, folder):
+    """Of a server whose connections last a second, the first reply waits half of that."""
+    with disk(folder / "disk") as place:
+        rig = Rig(program, folder, QUOTA, place)
+        rig.options = ["--timeout", "1"]
+        with opened(rig.server()) as server:
+            rig.take(server)
+            with frozen(place):
+                waited = until_withheld(rig, server)
+            until_offered(rig, server)
+            rig.stopped(server)
+        rig.exact()
+    if not 0.4 <= waited <= 1:
+        raise Wrong(f"a reply waited {waited:.1f} s")
+    return f"503 after {waited:.2f} s"
+
+
 def power_cuts(program, folder):
     """The device's blocks as they are at random moments, and so after a loss of power. The server
     is stopped meanwhile, so that they are of one moment."""
@@ -217,6 +257,8 @@ DEVICES = {
     "a full disk": full_disk,
     "a read-only folder": read_only_folder,
     "a folder that is removed": folder_gone,
+    "a quota that is used up on a full disk": used_up,
     "a device that hangs": hangs,
+    "a device that hangs, and a time limit of a second": hangs_briefly_limited,
     "a loss of power": power_cuts,
 }
