@@ -1,4 +1,5 @@
 mod Backing
 mod Kept
+mod Longer
 mod Receipts
 mod Stored

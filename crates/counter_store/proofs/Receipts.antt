@@ -11,8 +11,7 @@ use Rattle.cells.specs.Apart.{QuotasAreWide}
 use Rattle.cells.specs.Arrays.{HasCell, HasRanges}
 use Rattle.cells.specs.Directory.{IsDirectory}
 use Rattle.ceilings.specs.declared.rule.Raised.{Raised}
-use Rattle.ceilings.specs.Rule.{raised_in}
-use Rattle.kept_cells.specs.Tickets.{is_ticket}
+use Rattle.kept_cells.specs.Tickets.{is_ticket, IsCovered}
 use Rattle.shared_cells.specs.Quotas.{adds_one}
 use Rattle.counter_store.specs.Ledger.{IsBacked}
 use Rattle.counter_store.specs.Quotas.{PlacesAreStored, IsStored, CoveredAreStored}
@@ -45,10 +44,10 @@ pub covered_stored : PlacesAreStored → QuotasAreWide → (arrays : List CellAr
     → All (IsBacked arrays numbers) raised → IsPrefix known raised
     → CoveredAreStored arrays numbers known
 covered_stored stored wide arrays numbers known raised directory backed prefix events =
-    All-weaker (λ (e : CellEvent). IsTrue (is_ticket e) → e.reply < raised_in e.cell known)
+    All-weaker (λ (e : CellEvent). IsTrue (is_ticket e) → IsCovered known e)
     (IsStored arrays numbers)
-    (λ e below a quota there has is adds less.
+    (λ e covered a quota there has is adds less.
     stored arrays numbers known a e.cell quota e.reply directory there has is
     (known_backed arrays numbers known raised prefix backed) less
-    (below (ticket wide arrays a quota e directory there has is adds less)))
+    (covered (ticket wide arrays a quota e directory there has is adds less)))
     events

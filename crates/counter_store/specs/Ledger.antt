@@ -1,10 +1,11 @@
 -- The numbers that a file has for cells, and the ceilings that were raised.
-use Rattle.std.specs.Prelude.{◌≡◌, ℕ, ◌<◌, ◌≤◌, min, List, All, slice_index}
+use Rattle.std.specs.Prelude.{◌≡◌, ℕ, ◌+◌, ◌-◌, ◌^◌, ◌<◌, ◌≤◌, min, List, All, slice_index}
 use Rattle.atomic_table.specs.Seated.{TableId}
 use Rattle.cells.specs.Events.{AreCells}
 use Rattle.cells.specs.declared.array.CellArray.{CellArray}
 use Rattle.ceilings.specs.Seats.{IsAt, SeatView}
 use Rattle.ceilings.specs.declared.rule.Raised.{Raised}
+use Rattle.kept_cells.specs.Tickets.{limit_word}
 use Rattle.counter_store.specs.Places.{ArePlaces, places_in}
 
 -- the ceilings, and those that were raised; the arrays, the numbers of their cells, and those of
@@ -16,10 +17,14 @@ pub record LedgerView : Type 0 where
   pub numbers : List ℕ
   pub next : List ℕ
 
--- each place below the ceiling is below the cell's number
-pub record IsBacked (arrays : List CellArray) (numbers : List ℕ) (ceiling : Raised) : Type 0 where
-  pub wide : ceiling.cell < 4096
-  pub places : min (places_in arrays ceiling.cell) ceiling.number ≤ slice_index numbers ceiling.cell
+-- a ceiling: each place below it is below the cell's number. Or a limit, and from there on the cell
+-- has no places
+pub record IsBacked (arrays : List CellArray) (numbers : List ℕ) (raised : Raised) : Type 0 where
+  pub word : raised.cell < 8192
+  pub ceiling : raised.cell < 4096
+      → min (places_in arrays raised.cell) raised.number ≤ slice_index numbers raised.cell
+  pub limit : (cell : ℕ) → raised.cell ≡ limit_word cell
+      → places_in arrays cell + raised.number ≤ 2 ^ 64 - 1
 
 -- no number is lower
 abbrev pub AreNotLower : (old new : List ℕ) → Type 0

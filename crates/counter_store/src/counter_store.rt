@@ -3,6 +3,7 @@
 ghost use Rattle.std.specs.Prelude.{◌≡◌, ◌≢◌, All, IfOk, IfSome, IsTrue, OnErr, OnOk, Ok};
 ghost use Rattle.std.specs.Prelude.{false, map, string_bytes, true};
 ghost use Rattle.std.specs.Arc.{arc_value};
+ghost use mathlib.Core.List.{IsPrefix};
 ghost use Rattle.cells.specs.Events.{AreCells};
 ghost use Rattle.ceilings.specs.Seats.{IsAt};
 ghost use Rattle.counters_file.specs.Kept.{IsWhole, Keeps};
@@ -88,7 +89,7 @@ impl<F: KeptFile + Drop> CounterStore<F> {
         }
     }
 
-    /// Adopts all arrays of the server, of which it may have some already, and the appids of its
+    /// Adopts all arrays of the server, which go on from those that it has, and the appids of its
     /// halted apps. If an allocation fails, nothing is adopted.
     pub fn learn(
         &mut self,
@@ -96,6 +97,8 @@ impl<F: KeptFile + Drop> CounterStore<F> {
         halted: Vec<String>,
         directory: Directory,
     ) -> Result<(), AllocError>
+        ensures adopted { OnOk result (IsPrefix self.old.ledger.arrays directory
+            → self.new.ledger.arrays ≡ directory) }
         ensures numbers { self.new.ledger.numbers ≡ self.old.ledger.numbers }
         ensures ceilings { self.new.ledger.ceilings ≡ self.old.ledger.ceilings }
         ensures halted { OnOk result (self.new.halted ≡ halted) }
@@ -109,8 +112,8 @@ impl<F: KeptFile + Drop> CounterStore<F> {
     }
 
     /// Stores what the workers want, and then raises the ceilings. Cells without a quota get these
-    /// present values. Returns whether there was something to store: a new value of a cell without a
-    /// quota counts only if it `is_due`. Returns K4 if the file can't be written, and B4 if an
+    /// present values. Returns whether there was something to store: a new value of a cell without
+    /// a quota counts only if it `is_due`. Returns K4 if the file can't be written, and B4 if an
     /// allocation fails. Then no ceiling is raised, and no reply waits until a commit succeeds.
     // open: what the workers want, and when K4 and B4 are returned.
     pub fn commit(

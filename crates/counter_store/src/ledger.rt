@@ -1,7 +1,8 @@
 //! The numbers that a file has for cells, and the ceilings, which are never above them.
 
-ghost use Rattle.std.specs.Prelude.{◌≡◌, ℕ, List, ◌<◌, ◌≤◌, min, All, IfOk, OnErr};
+ghost use Rattle.std.specs.Prelude.{◌≡◌, ℕ, List, ◌<◌, ◌≤◌, min, All, IfOk, OnErr, OnOk};
 ghost use Rattle.std.specs.Arc.{arc_value};
+ghost use mathlib.Core.List.{IsPrefix};
 ghost use Rattle.cells.specs.Events.{AreCells};
 ghost use Rattle.ceilings.specs.Seats.{IsAt};
 ghost use Rattle.counter_store.specs.Ledger.{AreNext, AreNotLower, IsBacked, KeepsPlaces};
@@ -172,17 +173,20 @@ impl Ledger {
         }
     }
 
-    /// Adopts a longer directory, and opens its cells without a quota. A directory in which a cell
-    /// has more places than before isn't longer, and is ignored.
+    /// Adopts a directory that goes on from the present one, and opens its cells without a quota.
+    /// One in which a cell has more places than before doesn't go on, and is ignored.
     pub(crate) fn learn(&mut self, alloc: Global, directory: Directory) -> Result<(), AllocError>
+        ensures adopted { OnOk result
+            (IsPrefix self.old.arrays directory → self.new.arrays ≡ directory) }
         ensures numbers { self.new.numbers ≡ self.old.numbers }
         ensures ceilings { self.new.ceilings ≡ self.old.ceilings }
         ensures nothing { OnErr result (self.new ≡ self.old) }
     {
         let places = places(alloc, directory.arrays())?;
-        if are_no_more(&places, &self.places) {
-            self.adopt(directory, places);
+        if !are_no_more(&places, &self.places) {
+            return Ok(());
         }
+        self.adopt(directory, places);
         Ok(())
     }
 
@@ -190,6 +194,7 @@ impl Ledger {
         requires places { ArePlaces directory places.items }
         requires no_more { (old : List ℕ) → ArePlaces self.old.arrays old
             → AreNotLower places.items old }
+        ensures adopted { self.new.arrays ≡ directory }
         ensures numbers { self.new.numbers ≡ self.old.numbers }
         ensures ceilings { self.new.ceilings ≡ self.old.ceilings }
     {
@@ -198,7 +203,7 @@ impl Ledger {
         self.open();
     }
 
-    // Opens each cell that has no place left.
+    // Opens each cell that has no place left, and sets the limits of all.
     fn open(&mut self)
         ensures numbers { self.new.numbers ≡ self.old.numbers }
         ensures arrays { self.new.arrays ≡ self.old.arrays }
@@ -209,7 +214,19 @@ impl Ledger {
             if self.places[at] <= self.numbers[at] {
                 self.raise(at);
             }
+            self.set_limit(at);
         }
+    }
+
+    // Sets a cell's limit: that many places it has.
+    fn set_limit(&mut self, cell: usize)
+        requires { cell < 4096 }
+        ensures numbers { self.new.numbers ≡ self.old.numbers }
+        ensures arrays { self.new.arrays ≡ self.old.arrays }
+        ensures ceilings { self.new.ceilings ≡ self.old.ceilings }
+    {
+        self.kept
+            .set_limit(&mut self.writer, cell, self.places[cell]);
     }
 
     // Raises a cell's ceiling as far as its number allows.

@@ -51,8 +51,10 @@ fn places_of(quota: Option<u64>) -> u64
 /// Whether no cell has more places than before.
 pub(crate) fn are_no_more(places: &[u64], before: &[u64]) -> bool
     requires { length places.now ≡ length before.now }
-    ensures { IsTrue result
+    ensures so { IsTrue result
         → (cell : ℕ) → slice_index places.now cell ≤ slice_index before.now cell }
+    ensures only { ((cell : ℕ) → slice_index places.now cell ≤ slice_index before.now cell)
+        → IsTrue result }
 {
     for cell in 0..places.len() {
         if before[cell] < places[cell] {
