@@ -20,9 +20,11 @@ one_kept : (old new : NotesView) → KeepsNotes old new → (e : CellEvent) → 
     → IsNoted new e
 one_kept old new keeps e noted is =
     let was = noted is in
-    let above = below_more e.reply (slice_index old.above e.cell) (slice_index new.above e.cell) was.0
+    let above =
+    below_more e.reply (slice_index old.above e.cell) (slice_index new.above e.cell) was.0
     (keeps.above e.cell) in
-    let least = least_more e.reply (slice_index old.least e.cell) (slice_index new.least e.cell) was.1
+    let least =
+    least_more e.reply (slice_index old.least e.cell) (slice_index new.least e.cell) was.1
     (keeps.least e.cell (some e.reply (slice_index old.above e.cell) was.0)) in
     (above, least)
 
@@ -55,7 +57,8 @@ one_more old new events e notes more =
           ∙ ap (λ (n : ℕ). min n (2 ^ 64 - 1)) (sym count);
       from =
           subst (λ (n : ℕ). n ≤ new.count) (sym from)
-          (still_from (length events) old.count old.from new.count notes.count notes.from more.count);
+          (still_from (length events) old.count old.from new.count notes.count notes.from
+          more.count);
       noted = λ less.
           let le = within (length events) old.count old.from notes.count notes.from in
           let earlier = all_kept old new more.keeps (drop old.from events)

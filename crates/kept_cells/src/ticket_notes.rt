@@ -130,8 +130,8 @@ impl TicketNotes {
         self.count
     }
 
-    /// Whether each ticket since the mark is below its ceiling, or past its limit. False if the notes
-    /// begin elsewhere.
+    /// Whether each ticket since the mark is below its ceiling, or past its limit. False if the
+    /// notes begin elsewhere.
     pub(crate) fn is_covered(&self, mark: u64, kept: &Kept, reader: &mut Reader) -> bool
         requires own { IsAt kept.now reader.old }
         ensures own { IsAt kept.now reader.new }
