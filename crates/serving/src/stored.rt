@@ -27,8 +27,9 @@ use std::time::Clock;
 use workers::{Ports, Returned, ServeOptions, ServerParts, run};
 
 /// Serves as `workers::run` does, with a new pass for each worker and for the operator. If there is
-/// a store, a thread of its own stores the counters, and replies wait for it. Also returns the
-/// store's file. Returns B4 if an allocation or a thread fails, and B3 if `out` can't be written.
+/// a store, a thread of its own stores the counters, and replies wait for it. They wait for at most
+/// half of a connection's time limit, so that they can still be sent. Also returns the file of the
+/// store. Returns B4 if an allocation or a thread fails, and B3 if `out` can't be written.
 // open: what `run` leaves open.
 pub(crate) fn run_stored<H, L, F, O>(
     rt: &H,
@@ -68,7 +69,7 @@ where
     let Ok(shared) = shared_of(&store) else {
         return Err(ServingFault::Resource(ResourceFault::Memory));
     };
-    let cover = StoreCover::of(rt, shared);
+    let cover = StoreCover::of(rt, shared, service.timeout / 2);
     let parts = ServerParts {
         loader,
         cells,
