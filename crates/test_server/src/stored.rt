@@ -1,5 +1,6 @@
-//! A server whose counters are stored: while that fails, a reply that takes from a quota is
-//! withheld, and others aren't. The log says when it begins to fail, and when it no longer does.
+//! A server whose counters are stored: while that fails, a reply that takes a place of a quota is
+//! withheld, and others aren't. Nor is one that takes after the quota's last place. The log says
+//! when it begins to fail, and when it no longer does.
 
 use crate::impaired::Impaired;
 use crate::loopback::{ONE_APP, has_answer, reply, sent};
@@ -25,6 +26,9 @@ const OTHER_APP: &str = "POST /service/update2/json HTTP/1.1\r\nContent-Length: 
 
 /// How a reply to a request begins.
 const SENT: &str = "HTTP/1.1 200 OK\r\n";
+
+/// How one begins that is withheld.
+const WITHHELD: &str = "HTTP/1.1 503 ";
 
 /// What lines have that say whether the file can be written.
 const KIND: &str = "\"kind\":\"counters\"";
@@ -87,12 +91,24 @@ fn are_withheld<T: Abort + Threads + Sync>(
 ) -> bool {
     let is_sent = is_replied(own, clients, ONE_APP, SENT);
     fails.store(true, Ordering::SeqCst);
-    let is_withheld = is_replied_once(own, clients, "HTTP/1.1 503 ");
+    let is_withheld = is_replied_once(own, clients, WITHHELD);
     let is_other_sent = is_replied(own, clients, OTHER_APP, SENT);
     fails.store(false, Ordering::SeqCst);
     let is_sent_again = is_replied_once(own, clients, SENT);
-    let is_stopped = has_answer(own.rt, operator, OperatorRequest::Stop, Some("stopping\n"));
-    is_sent && is_withheld && is_other_sent && is_sent_again && is_stopped
+    is_sent && is_withheld && is_other_sent && is_sent_again && is_stopped(own, operator)
+}
+
+fn is_stopped<T: Abort>(own: &Impaired<'_, T>, operator: u16) -> bool {
+    has_answer(own.rt, operator, OperatorRequest::Stop, Some("stopping\n"))
+}
+
+/// Whether only the two replies are withheld that take the places of a quota of two. Then the
+/// server is stopped.
+fn are_two_withheld<T: Abort>(own: &Impaired<'_, T>, clients: SocketAddr, operator: u16) -> bool {
+    let is_first_withheld = is_replied(own, clients, ONE_APP, WITHHELD);
+    let is_second_withheld = is_replied(own, clients, ONE_APP, WITHHELD);
+    let is_third_sent = is_replied(own, clients, ONE_APP, SENT);
+    is_first_withheld && is_second_withheld && is_third_sent && is_stopped(own, operator)
 }
 
 /// Serves with two workers and this file, and logs to the queue.
@@ -131,14 +147,19 @@ fn has_changes(log: &str) -> bool {
     !before.contains(KIND) && !meanwhile.contains(KIND) && !later.contains(KIND)
 }
 
+/// A server of this manifest that is ready.
+fn ready<T: Abort>(own: &Impaired<'_, T>, manifest: &str) -> Server {
+    let none = Counters::none(own.rt.alloc()).expect(own.handles, "counters");
+    let server = prepare(own, &Device::new(own.rt), manifest, 0, 0, none);
+    server.expect(own.handles, "a server")
+}
+
 /// Whether a server of the manifest with a quota of a thousand serves as it should, and logs it.
 fn is_right<T>(own: &Impaired<'_, T>) -> bool
 where
     T: Abort + Threads + Wait + Sync,
 {
-    let none = Counters::none(own.rt.alloc()).expect(own.handles, "counters");
-    let server = prepare(own, &Device::new(own.rt), "thousand.toml", 0, 0, none);
-    let server = server.expect(own.handles, "a server");
+    let server = ready(own, "thousand.toml");
     let (clients, operator) = (server.ports().service(), server.ports().operator().port());
     let fails = AtomicBool::new(false);
     let (queue, pieces) = LogQueue::new(own.rt.alloc(), 8080).expect(own.handles, "a queue");
@@ -150,9 +171,34 @@ where
     is_right && is_served && has_changes(lines_in(own, &pieces).as_str())
 }
 
+/// Whether a server of the manifest with a quota of two serves as it should, with a file that can't
+/// be written.
+fn is_right_past_the_quota<T>(own: &Impaired<'_, T>) -> bool
+where
+    T: Abort + Threads + Wait + Sync,
+{
+    let server = ready(own, "two.toml");
+    let (clients, operator) = (server.ports().service(), server.ports().operator().port());
+    let fails = AtomicBool::new(true);
+    let (queue, _pieces) = LogQueue::new(own.rt.alloc(), 8080).expect(own.handles, "a queue");
+    let (is_right, is_served) = thread::join(
+        own.handles,
+        || are_two_withheld(own, clients, operator),
+        || served(own, server, &fails, &queue),
+    );
+    is_right && is_served
+}
+
 #[test]
 fn what_cannot_be_stored_is_withheld(rt: HostRuntime) {
     write_files(&rt).expect(&rt, "files");
     let own = Impaired::new(&rt, &rt, None);
     assert!(rt; is_right(&own));
+}
+
+#[test]
+fn what_is_past_a_quota_is_sent(rt: HostRuntime) {
+    write_files(&rt).expect(&rt, "files");
+    let own = Impaired::new(&rt, &rt, None);
+    assert!(rt; is_right_past_the_quota(&own));
 }
