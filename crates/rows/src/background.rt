@@ -73,7 +73,7 @@ impl Background {
 }
 
 /// Waits until a port accepts connections, or the command has ended, for at most half a minute.
-fn await_port(rt: &HostRuntime, port: u16, has_ended: &AtomicBool) -> io::Result<()> {
+fn await_port(rt: &HostRuntime, port: u16, has_ended: &Arc<AtomicBool>) -> io::Result<()> {
     for _ in 0..3000 {
         if TcpStream::connect(rt, (Ipv4Addr::LOCALHOST, port)).is_ok() {
             return Ok(());
@@ -188,7 +188,7 @@ pub(crate) fn start<T: Handles + 'static>(
     let began = began_of(&rt.rt, mark);
     let own = *rt;
     let has_ended = Arc::new(rt.rt.alloc(), AtomicBool::new(false))?;
-    let notice = has_ended.clone();
+    let notice = has_ended.clone()?;
     let thread = thread::spawn(&rt.threads, move || ended(&own, task, notice))?;
     if mark == b'&' {
         await_port(&rt.rt, port, &has_ended)?;
