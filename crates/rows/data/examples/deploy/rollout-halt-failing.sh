@@ -1,6 +1,7 @@
 #!/bin/sh
 # Halts an app when its page says that a version of it fails: at least three of the version's newest 20
-# installs failed, and more than 5 percent. Nobody is asked first, so it is only an example.
+# installs failed, and more than 5 percent; none fails before it has 20. Nobody is asked first, so it
+# is only an example.
 #
 #   cp rollout-halt-failing.sh /etc/rollout/halt-failing
 #   echo '* * * * * root /etc/rollout/halt-failing editor' > /etc/cron.d/rollout-halt-failing
