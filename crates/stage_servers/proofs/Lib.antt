@@ -1,1 +1,3 @@
+mod GoesOn
 mod Then
+mod Whole

@@ -1,3 +1,5 @@
 pub mod Apps
+pub mod Drift
 pub mod Replaced
 pub mod Served
+pub mod Whole

@@ -2,6 +2,7 @@
 
 // No contract says what is printed: rows compare it.
 
+use crate::release_status::push_releases;
 use crate::replaced_files::file_named;
 use crate::shares::push_shares;
 use crate::step_lines::push_since;
@@ -168,6 +169,7 @@ fn push_app(standing: &Standing<'_>, app: &AppSources, indent: &str, text: &mut 
     }
     let bytes = whole_file(&app.kept);
     push_file(standing, app, bytes, u64::MAX, indent, text);
+    push_releases(standing, app, indent, text);
 }
 
 /// Adds the lines of each app.

@@ -2,7 +2,12 @@
 
 // No contract says what is printed: bench/outside tests it.
 
+ghost use Rattle.std.specs.Prelude.{◌≡◌, OnOk, false};
+ghost use Rattle.std.specs.List.{list_any};
+ghost use Rattle.stage_servers.specs.Drift as specs;
+
 use crate::collected::app_named;
+use crate::halted_app::halted_appid;
 use crate::options::StageCall;
 use crate::outcome::{Lines, Stop};
 use crate::refusals::refusal;
@@ -85,18 +90,85 @@ pub(crate) fn strange_app(server: &Surveyed) -> Option<&str> {
     }
 }
 
-// Why an action stops because of a server.
-fn stop_of<F: StageFolder>(
+fn is_halt(action: &StageAction<'_>) -> bool
+    ensures { result ≡ specs.is_halt action.now }
+{
+    match *action {
+        StageAction::Halt { .. } => true,
+        StageAction::HaltRelease { .. } => true,
+        StageAction::Raise { .. } => false,
+        StageAction::Back => false,
+        StageAction::Put { .. } => false,
+        StageAction::Resume { .. } => false,
+        StageAction::Status => false,
+        StageAction::History { .. } => false,
+    }
+}
+
+fn is_back(action: &StageAction<'_>) -> bool
+    ensures { result ≡ specs.is_back action.now }
+{
+    match *action {
+        StageAction::Halt { .. } => false,
+        StageAction::HaltRelease { .. } => false,
+        StageAction::Raise { .. } => false,
+        StageAction::Back => true,
+        StageAction::Put { .. } => false,
+        StageAction::Resume { .. } => false,
+        StageAction::Status => false,
+        StageAction::History { .. } => false,
+    }
+}
+
+// Whether a server has an app that is neither in place nor in the next manifest.
+fn is_strange(serves: &Serves) -> bool
+    ensures { result ≡ specs.is_strange serves.now }
+{
+    match serves {
+        Serves::Other {
+            strange: Some(_),
+            ..
+        } => true,
+        Serves::Other { strange: None, .. } => false,
+        Serves::InPlace => false,
+        Serves::Step { .. } => false,
+        Serves::Undone => false,
+        Serves::Unknown => false,
+    }
+}
+
+// Whether so many later steps are done as an action expects.
+fn is_last(action: &StageAction<'_>, later: usize) -> bool
+    ensures { result ≡ specs.is_last action.now later }
+{
+    if is_back(action) {
+        return later < 2;
+    }
+    later == 0
+}
+
+// Whether a server serves what an action expects, whatever was edited.
+fn is_expected(action: &StageAction<'_>, serves: &Serves) -> bool
+    ensures { result ≡ specs.is_expected action.now serves.now }
+{
+    match serves {
+        Serves::InPlace => true,
+        Serves::Unknown => true,
+        Serves::Step { later, .. } => is_last(action, *later),
+        Serves::Undone => false,
+        Serves::Other { .. } => false,
+    }
+}
+
+// The stop of an action but a put, if a file isn't as the last step left it, which a server serves.
+fn edit_of<F: StageFolder>(
     alloc: Global,
     folder: &F,
     server: &Surveyed,
-    manifest: &str,
     action: &StageAction<'_>,
 ) -> Option<Stop> {
     match (&server.serves, *action) {
-        (Serves::InPlace | Serves::Unknown, _) => None,
-        (Serves::Step { later: 0, .. }, StageAction::Put { .. }) => None,
-        (Serves::Step { later: 1, .. }, StageAction::Back) => None,
+        (_, StageAction::Put { .. }) => None,
         (
             Serves::Step {
                 number,
@@ -109,7 +181,18 @@ fn stop_of<F: StageFolder>(
             let name = edited_name(folder, files)?;
             Some(edited(alloc, server.port, *number, name))
         }
-        _ => Some(drifted(alloc, server, manifest)),
+        _ => None,
+    }
+}
+
+// The stop at a server with a strange app.
+fn another_of(alloc: Global, server: &Surveyed) -> Stop {
+    match &server.serves {
+        Serves::Other {
+            loaded,
+            strange: Some(appid),
+        } => another(alloc, server.port, appid.as_str(), loaded.as_str()),
+        _ => another(alloc, server.port, "", ""),
     }
 }
 
@@ -124,27 +207,32 @@ fn stop_at<R, D, F>(
 where
     R: AllocGlobal,
     F: StageFolder,
+    ensures { OnOk result
+        (specs.stops_at call.now.options.now action.now server.now ≡ false) }
 {
-    let alloc = call.rt.alloc();
-    if let Serves::Other {
-        strange: Some(appid),
-        loaded,
-    } = &server.serves
-    {
-        let stop = another(alloc, server.port, appid.as_str(), loaded.as_str());
-        return lines.go_on_if(call.options.other_server, stop);
+    if is_halt(action) {
+        return Ok(());
     }
-    match stop_of(alloc, folder, server, call.manifest, action) {
-        Some(stop) => lines.go_on_if(call.options.anyway, stop),
-        None => Ok(()),
+    let (alloc, options) = (call.rt.alloc(), call.options);
+    if is_strange(&server.serves) {
+        lines.go_on_if(options.other_server, another_of(alloc, server))?;
+        return Ok(());
     }
+    if !is_expected(action, &server.serves) {
+        lines.go_on_if(options.anyway, drifted(alloc, server, call.manifest))?;
+        return Ok(());
+    }
+    if let Some(stop) = edit_of(alloc, folder, server, action) {
+        lines.go_on_if(options.anyway, stop)?;
+    }
+    Ok(())
 }
 
 /// Stops before anything is changed, if a server doesn't serve what is in place: unless `--anyway`
 /// is given, or `--other-server` if it has another app. A halt doesn't stop. A put continues after
 /// an edit of the files in place, since its rows begin with what is served. So does undoing a step
 /// that the server doesn't serve yet, as one that stopped in its middle.
-// open: when it stops: rows, and bench/outside.
+// open: that it stops if a file was edited since the last step, which a server serves: rows.
 pub fn stop_if_drifted<R, D, F>(
     call: &StageCall<'_, R, D>,
     folder: &F,
@@ -155,12 +243,13 @@ pub fn stop_if_drifted<R, D, F>(
 where
     R: AllocGlobal,
     F: StageFolder,
+    ensures { OnOk result
+        (list_any (specs.stops_at call.now.options.now action.now) servers.now ≡ false) }
 {
-    if let StageAction::Halt { .. } = *action {
-        return Ok(());
-    }
-    for server in servers {
+    let mut left = servers;
+    while let [server, others @ ..] = left {
         stop_at(call, folder, server, action, lines)?;
+        left = others;
     }
     Ok(())
 }
@@ -237,7 +326,7 @@ where
         }
         return !call.options.other_server;
     }
-    let StageAction::Halt { appid } = *action else {
+    let Some(appid) = halted_appid(action) else {
         return false;
     };
     let own = match app_named(apps, appid) {

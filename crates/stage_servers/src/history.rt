@@ -2,6 +2,11 @@
 
 // No contract says what is printed: rows compare it.
 
+ghost use Rattle.std.specs.Prelude.{◌≡◌, [], IfOk, true};
+ghost use Rattle.stage_folder.specs.declared.records.RecordedSteps.{RecordedSteps};
+ghost use Rattle.stage_records.specs.declared.file_state.FileState.TheVariants.{After};
+ghost use Rattle.stage_servers.specs.Whole.{AreAllRead, IsAsLeft};
+
 use crate::options::StageCall;
 use crate::outcome::{Lines, Stop};
 use crate::refusals::{RECORDS, in_folder};
@@ -12,8 +17,12 @@ use stage_folder::{RecordedSteps, StageFolder, recorded_steps};
 use stage_records::{FileState, ReplacedFile, StagingStep, StepAction};
 use std::alloc::Global;
 
-/// How a file is now, compared with what a step found and left.
-pub(crate) fn state_of<F: StageFolder>(folder: &F, file: &ReplacedFile) -> FileState {
+/// How a file is now, compared with what a step found and left; one that can't be read counts as
+/// edited.
+#[tactic(auto, using(crate::proofs::Whole::as_left))]
+pub(crate) fn state_of<F: StageFolder>(folder: &F, file: &ReplacedFile) -> FileState
+    ensures { result ≡ After → IsAsLeft (F.files folder.now) file.now }
+{
     match folder.read(file.name.as_str()) {
         Ok(found) => file.state(found.as_deref()),
         Err(_) => FileState::Edited,
@@ -58,6 +67,7 @@ fn is_about(step: &StagingStep, appid: Option<&str>) -> bool {
     };
     match &step.action {
         StepAction::Halt { appid } => appid.as_str() == wanted,
+        StepAction::HaltRelease { appid, .. } => appid.as_str() == wanted,
         StepAction::Raise { appid, .. } => appid.as_str() == wanted,
         StepAction::Resume { appid, .. } => appid.as_str() == wanted,
         StepAction::Put { .. } => true,
@@ -82,6 +92,13 @@ pub(crate) fn push_steps<F: StageFolder>(
     }
 }
 
+/// Whether there are no numbers.
+pub(crate) fn are_none(numbers: &[u32]) -> bool
+    ensures { result ≡ true → numbers.now ≡ [] }
+{
+    numbers.is_empty()
+}
+
 /// Adds a line for each record that isn't a step's.
 pub(crate) fn push_unread(numbers: &[u32], stderr: &mut TextBuffer) {
     for number in numbers {
@@ -93,7 +110,7 @@ pub(crate) fn push_unread(numbers: &[u32], stderr: &mut TextBuffer) {
 }
 
 /// Prints all steps, or those of one app and all puts. Returns whether each record is a step's.
-// open: what is printed, and what is returned: rows, and bench/outside.
+// open: what is printed: rows.
 pub fn push_history<R, D, F>(
     call: &StageCall<'_, R, D>,
     folder: &F,
@@ -103,6 +120,8 @@ pub fn push_history<R, D, F>(
 where
     R: AllocGlobal,
     F: StageFolder,
+    ensures { IfOk result (λ read. read ≡ true → (recorded : RecordedSteps)
+        × AreAllRead (F.records folder.now) recorded) }
 {
     let alloc = call.rt.alloc();
     let recorded = match recorded_steps(alloc, folder) {
@@ -118,7 +137,7 @@ where
         &mut lines.text,
     );
     push_unread(&recorded.unread, &mut lines.stderr);
-    let are_read = recorded.unread.is_empty();
+    let are_read = are_none(&recorded.unread);
     drop(recorded);
     Ok(are_read)
 }

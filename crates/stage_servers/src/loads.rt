@@ -8,7 +8,7 @@ use crate::load_notes::{LoadNote, read_notes, with_note};
 use crate::options::StageCall;
 use crate::outcome::Lines;
 use crate::removed_apps::{apps_shown, push_removed};
-use crate::server_halts::resume_at;
+use crate::server_halts::{offer_others_at, resume_at};
 use crate::serves::server_at;
 use bounded_files::Disk;
 use load::{CollectedManifest, collect_manifest};
@@ -143,6 +143,34 @@ struct Loads {
     are_resumed: bool,
 }
 
+// Has a server that loaded the manifest offer these apps again; or the other releases of an app of
+// which one is halted. Returns whether it does.
+fn offered_at<R>(
+    rt: &R,
+    port: u16,
+    action: &StageAction<'_>,
+    lifted: &[String],
+    lines: &mut Lines,
+) -> bool
+where
+    R: AllocGlobal + Net<Stream = TcpStream>,
+{
+    match *action {
+        StageAction::HaltRelease { appid, .. } => offer_others_at(rt, port, appid, lines),
+        _ => resume_at(rt, port, lifted, lines),
+    }
+}
+
+// Adds that an app stays halted where a halt of one release isn't loaded.
+fn push_stays(stderr: &mut TextBuffer, action: &StageAction<'_>) {
+    if let StageAction::HaltRelease { appid, version } = *action {
+        stderr.push_printed("stage: ", appid, " stays halted there: mend that, ");
+        stderr.push_printed("call stage halt ", appid, " ");
+        stderr.push_printed("", version, " again, and then ");
+        stderr.push_printed("rollout resume ", appid, "\n");
+    }
+}
+
 // Has each server load the manifest, notes the loads, and then has it offer these apps again. If
 // the notes can't be written, a status only doesn't know of these loads.
 fn load_each<R, D, F>(
@@ -164,7 +192,7 @@ where
     let mut are_resumed = true;
     for port in call.options.ports() {
         if load_unless_spared(call, folder, *port, collected, action, &mut notes, lines) {
-            are_resumed = resume_at(call.rt, *port, lifted, lines) && are_resumed;
+            are_resumed = offered_at(call.rt, *port, action, lifted, lines) && are_resumed;
         } else {
             refused.push_number(" ", *port as u64, "");
         }
@@ -207,6 +235,7 @@ where
             lines.stderr.push(loads.refused.as_str());
             let advice = "; the files are in place: mend that, and then call rollout load ";
             lines.stderr.push_printed(advice, call.manifest, "\n");
+            push_stays(&mut lines.stderr, action);
             false
         }
         Err(_) => {

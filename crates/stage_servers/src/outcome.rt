@@ -106,7 +106,7 @@ impl Lines {
         for port in &self.halted_at {
             self.stderr.push_number(" ", *port as u64, "");
         }
-        self.stderr.push(": mend this, and call it again\n");
+        self.stderr.push(": mend this, and call it again (rollout resume lifts it)\n");
     }
 
     /// Continues in spite of a refusal, if `--anyway` is given.

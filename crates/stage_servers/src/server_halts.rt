@@ -3,8 +3,10 @@
 
 // No contract says what a server does, or what is printed: bench/outside tests it.
 
+use crate::halted_app::halted_appid;
 use crate::options::{StageCall, StageOptions};
 use crate::outcome::Lines;
+use crate::server_state::halted_in;
 use bounded_files::Disk;
 use load::{AppSources, CollectedManifest, collect_manifest};
 use operator::{RequestFault, ask_server};
@@ -12,7 +14,7 @@ use operator_request::OperatorRequest;
 use printing::TextBuffer;
 use stage_folder::{RecordedSteps, StageFolder, recorded_steps};
 use stage_records::StageAction;
-use staging::{is_in_force, may_offer, surely_offers};
+use staging::{is_in_force, is_release_halted, may_offer, surely_offers};
 use std::alloc::{AllocError, Global};
 use std::net::{Net, TcpStream};
 
@@ -56,8 +58,40 @@ where
     }
 }
 
+// Whether the server at a port may halt an app already: it says so, or nothing.
+fn is_halted_at<R>(rt: &R, port: u16, appid: &str) -> Result<bool, AllocError>
+where
+    R: AllocGlobal + Net<Stream = TcpStream>,
+{
+    let Ok(reply) = ask_server(rt, OperatorRequest::State, port) else {
+        return Ok(true);
+    };
+    let halted = halted_in(rt.alloc(), reply.as_str())?;
+    let mut is_halted = false;
+    for name in &halted {
+        is_halted = is_halted || name.as_str() == appid;
+    }
+    Ok(is_halted)
+}
+
+// Whether the app of an action is to be offered again at a port once its release is halted in the
+// files, so that a halt that was there before stays. If that isn't known, it isn't offered again.
+fn is_offered_later<R>(rt: &R, port: u16, action: &StageAction<'_>) -> bool
+where
+    R: AllocGlobal + Net<Stream = TcpStream>,
+{
+    match *action {
+        StageAction::HaltRelease { appid, .. } => matches!(
+            is_halted_at(rt, port, appid),
+            Ok(false)
+        ),
+        _ => true,
+    }
+}
+
 /// Has each server halt the app of a halt, whatever the others do, unless no server is to load. No
-/// file is read for it. The lines then know at which ports the app is halted.
+/// file is read for it. The lines then know at which ports the app is halted; those at which it was
+/// halted before that of a release aren't among them.
 // open: what a server does, and what is printed: bench/outside.
 pub fn halt_at_servers<R>(
     rt: &R,
@@ -68,14 +102,15 @@ pub fn halt_at_servers<R>(
 where
     R: AllocGlobal + Net<Stream = TcpStream>,
 {
-    let StageAction::Halt { appid } = *action else {
+    let Some(appid) = halted_appid(action) else {
         return;
     };
     if options.no_load || options.dry_run {
         return;
     }
     for port in options.ports() {
-        if halt_at(rt, *port, appid, lines) {
+        let ends = is_offered_later(rt, *port, action);
+        if halt_at(rt, *port, appid, lines) && ends {
             lines.note_halt(*port);
         }
     }
@@ -88,7 +123,7 @@ pub fn halt_again<R>(rt: &R, action: &StageAction<'_>, lines: &Lines)
 where
     R: AllocGlobal + Net<Stream = TcpStream>,
 {
-    let StageAction::Halt { appid } = *action else {
+    let Some(appid) = halted_appid(action) else {
         return;
     };
     for port in lines.halted_ports() {
@@ -137,6 +172,22 @@ where
     }
 }
 
+// These apps, and that of a resume, if its last halt is that of a release.
+fn with_resumed(
+    alloc: Global,
+    recorded: &RecordedSteps,
+    action: &StageAction<'_>,
+    apps: Vec<String>,
+) -> Result<Vec<String>, AllocError> {
+    let mut halted = apps;
+    if let StageAction::Resume { appid, .. } = *action
+        && is_release_halted(&recorded.steps, appid)
+    {
+        halted.push(String::from_str(alloc, appid)?)?;
+    }
+    Ok(halted)
+}
+
 /// The apps in place whose halts are surely in force, and may be lifted by this action; none if the
 /// records or the manifest can't be read. A halt and a raise lift none.
 // open: which apps these are: bench/outside.
@@ -151,15 +202,19 @@ where
     F: StageFolder,
 {
     let alloc = call.rt.alloc();
-    if let StageAction::Halt { .. } | StageAction::Raise { .. } = *action {
+    if halted_appid(action).is_some() || matches!(*action, StageAction::Raise { .. }) {
         return Ok(Vec::new(alloc));
     }
     let Some((recorded, collected)) = in_place(call, folder) else {
         return Ok(Vec::new(alloc));
     };
-    let halted = halted_among(alloc, &recorded, &collected.sources.apps);
-    drop(recorded);
+    let among = halted_among(alloc, &recorded, &collected.sources.apps);
     drop(collected);
+    let halted = match among {
+        Ok(halted) => with_resumed(alloc, &recorded, action, halted),
+        Err(_) => Err(AllocError),
+    };
+    drop(recorded);
     halted
 }
 
@@ -184,6 +239,31 @@ where
     lifted
 }
 
+// Has the server at a port offer an app again. Returns whether it does. An older server has halted
+// nothing without a load.
+fn resume_app_at<R>(rt: &R, port: u16, appid: &str, lines: &mut Lines) -> bool
+where
+    R: AllocGlobal + Net<Stream = TcpStream>,
+{
+    match ask_server(rt, OperatorRequest::Resume(appid), port) {
+        Ok(reply) => {
+            push_done(
+                &mut lines.text,
+                port,
+                reply.as_str(),
+                appid,
+                " is offered again\n",
+            );
+            true
+        }
+        Err(RequestFault::Refused(words)) if words.starts_with("B1") => true,
+        Err(fault) => {
+            push_still_halted(&mut lines.stderr, port, appid, fault);
+            false
+        }
+    }
+}
+
 /// Has the server at a port offer these apps again, as their files say. Returns whether it does. An
 /// older server has halted nothing without a load.
 pub(crate) fn resume_at<R>(rt: &R, port: u16, appids: &[String], lines: &mut Lines) -> bool
@@ -192,25 +272,28 @@ where
 {
     let mut all = true;
     for appid in appids {
-        let appid = appid.as_str();
-        match ask_server(rt, OperatorRequest::Resume(appid), port) {
-            Ok(reply) => {
-                push_done(
-                    &mut lines.text,
-                    port,
-                    reply.as_str(),
-                    appid,
-                    " is offered again\n",
-                )
-            }
-            Err(RequestFault::Refused(words)) if words.starts_with("B1") => {}
-            Err(fault) => {
-                push_still_halted(&mut lines.stderr, port, appid, fault);
-                all = false;
-            }
-        }
+        all = resume_app_at(rt, port, appid.as_str(), lines) && all;
     }
     all
+}
+
+/// Has the server at a port offer an app again, of which only a release is halted by now, unless
+/// the app was halted there before. Returns whether it does what it is to do.
+pub(crate) fn offer_others_at<R>(rt: &R, port: u16, appid: &str, lines: &mut Lines) -> bool
+where
+    R: AllocGlobal + Net<Stream = TcpStream>,
+{
+    if lines.halted_ports().contains(&port) {
+        return resume_app_at(rt, port, appid, lines);
+    }
+    lines.text.push_number("server at ", port as u64, ": ");
+    lines
+        .text
+        .push_printed("if ", appid, " was halted there before, ");
+    lines
+        .text
+        .push_printed("it stays so: rollout resume ", appid, " ends that\n");
+    true
 }
 
 // Adds why a server still halts an app, and what to do.

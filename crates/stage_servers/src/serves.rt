@@ -1,5 +1,8 @@
 //! What a server serves, by the records of the folder's steps.
 
+ghost use Rattle.std.specs.Prelude.{IfOk, IfSome, Some};
+ghost use Rattle.stage_servers.specs.Drift.{IsServedBy};
+
 use crate::earlier_files::{collected_as, files_after};
 use crate::options::StageCall;
 use bounded_files::Disk;
@@ -36,6 +39,8 @@ pub enum Serves {
 #[derive(Drop)]
 pub struct Surveyed {
     pub port: u16,
+    /// The digest that it replied; None if no reply could be read.
+    pub digest: Option<[u8; 32]>,
     pub serves: Serves,
     /// The apps that it halts by its own word.
     pub halted: Vec<String>,
@@ -101,7 +106,10 @@ fn left_by<D: Disk>(
     steps: &[StagingStep],
     count: usize,
     digest: [u8; 32],
-) -> Result<Option<Serves>, AllocError> {
+) -> Result<Option<Serves>, AllocError>
+    ensures { IfOk result (λ found. IfSome found
+        (IsServedBy (D.known disk.now) manifest.now (Some digest))) }
+{
     let Some(number) = number_of(steps, count) else {
         return Ok(None);
     };
@@ -132,6 +140,8 @@ pub(crate) fn step_with<R, D>(
 where
     R: AllocGlobal,
     D: Disk,
+    ensures { IfOk result (λ found. IfSome found
+        (IsServedBy (D.known call.now.disk.now) call.now.manifest.now (Some digest))) }
 {
     let (alloc, disk) = (call.rt.alloc(), call.disk);
     for fewer in 0..steps.len() {

@@ -2,12 +2,14 @@
 
 // No contract says what is printed: rows compare it, and bench/outside with servers.
 
-ghost use Rattle.std.specs.Prelude.{◌≡◌, true};
+ghost use Rattle.std.specs.Prelude.{◌≡◌, All, IfOk, true};
+ghost use Rattle.stage_folder.specs.Recorded.{AreRecorded};
 ghost use Rattle.stage_servers.specs.Served.{IsKnown};
+ghost use Rattle.stage_servers.specs.Whole.{AreAsLeft, IsAsLeft, IsWhole};
 
 use crate::app_status::{Standing, push_apps};
 use crate::collected::collected_at;
-use crate::history::{push_steps, push_unread, state_of};
+use crate::history::{are_none, push_steps, push_unread, state_of};
 use crate::log_digest::push_log;
 use crate::options::StageCall;
 use crate::outcome::{Lines, Stop};
@@ -17,7 +19,7 @@ use crate::step_lines::now_of;
 use bounded_files::Disk;
 use printing::TextBuffer;
 use stage_folder::{FolderFault, RecordedSteps, StageFolder, recorded_steps};
-use stage_records::{FileState, StagingStep, last_step};
+use stage_records::{FileState, ReplacedFile, StagingStep, last_step};
 use std::alloc::Global;
 use std::io::ErrorKind;
 use std::net::{Net, TcpStream};
@@ -27,29 +29,52 @@ use std::time::Clock;
 /// How many steps a status has.
 const LAST_STEPS: usize = 3;
 
-// Adds each file that isn't as the last step left it. Returns whether there is none.
+// Adds a file that isn't as a step left it. Returns whether it is.
+fn push_state<F: StageFolder>(
+    folder: &F,
+    number: u32,
+    file: &ReplacedFile,
+    stderr: &mut TextBuffer,
+) -> bool
+    ensures { result ≡ true → IsAsLeft (F.files folder.now) file.now }
+{
+    let end = match state_of(folder, file) {
+        FileState::After => return true,
+        FileState::Before => " isn't replaced yet: call stage back, and then the action again\n",
+        FileState::Edited => " was edited since: stage back would stop there\n",
+    };
+    stderr.push_printed("stage: ", file.name.as_str(), "");
+    stderr.push_number(" of step ", number as u64, end);
+    false
+}
+
+// The same of each of these files of a step.
+#[tactic(auto, using(crate::proofs::Whole::both_left))]
 fn push_states<F: StageFolder>(
     folder: &F,
-    step: Option<&StagingStep>,
+    number: u32,
+    files: &[ReplacedFile],
     stderr: &mut TextBuffer,
-) -> bool {
-    let Some(step) = step else {
+) -> bool
+    ensures { result ≡ true → All (IsAsLeft (F.files folder.now)) files.now }
+{
+    let [file, others @ ..] = files else {
         return true;
     };
-    let mut whole = true;
-    for file in &step.files {
-        let end = match state_of(folder, file) {
-            FileState::After => continue,
-            FileState::Before => {
-                " isn't replaced yet: call stage back, and then the action again\n"
-            }
-            FileState::Edited => " was edited since: stage back would stop there\n",
-        };
-        stderr.push_printed("stage: ", file.name.as_str(), "");
-        stderr.push_number(" of step ", step.number as u64, end);
-        whole = false;
+    let is_left = push_state(folder, number, file, stderr);
+    let are_left = push_states(folder, number, others, stderr);
+    is_left && are_left
+}
+
+// The same of the last of these steps.
+#[tactic(auto, using(crate::proofs::Whole::last_left, crate::proofs::Whole::none_left))]
+fn push_last<F: StageFolder>(folder: &F, steps: &[StagingStep], stderr: &mut TextBuffer) -> bool
+    ensures { result ≡ true → AreAsLeft (F.files folder.now) steps.now }
+{
+    match last_step(steps) {
+        Some(step) => push_states(folder, step.number, &step.files, stderr),
+        None => true,
     }
-    whole
 }
 
 // Whether the servers serve what is in place, by what is known of them, and by a log, if one is
@@ -111,28 +136,57 @@ fn push_no_steps(stderr: &mut TextBuffer, fault: FolderFault) {
     }
 }
 
+// The recorded steps that a status shows, and whether they could be read.
+#[derive(Drop)]
+struct Shown {
+    recorded: RecordedSteps,
+    are_read: bool,
+}
+
 // The recorded steps; none if they can't be read, which is said.
-fn steps_shown<F: StageFolder>(
-    alloc: Global,
-    folder: &F,
-    stderr: &mut TextBuffer,
-) -> (RecordedSteps, bool) {
+fn steps_shown<F: StageFolder>(alloc: Global, folder: &F, stderr: &mut TextBuffer) -> Shown
+    ensures { result.are_read ≡ true → AreRecorded (F.records folder.now) result.recorded }
+{
     match recorded_steps(alloc, folder) {
-        Ok(recorded) => (recorded, true),
+        Ok(recorded) => Shown {
+            recorded,
+            are_read: true,
+        },
         Err(fault) => {
             push_no_steps(stderr, fault);
-            let none = RecordedSteps {
+            let recorded = RecordedSteps {
                 steps: Vec::new(alloc),
                 unread: Vec::new(alloc),
             };
-            (none, false)
+            Shown {
+                recorded,
+                are_read: false,
+            }
         }
     }
 }
 
+// Adds the last steps, the records that aren't steps', and the files that aren't as the last step
+// left them. Returns whether there are none.
+#[tactic(auto, using(crate::proofs::Whole::whole))]
+fn push_shown<F: StageFolder>(alloc: Global, folder: &F, shown: &Shown, lines: &mut Lines) -> bool
+    requires { shown.now.are_read ≡ true
+        → AreRecorded (F.records folder.now) shown.now.recorded }
+    ensures { result ≡ true → IsWhole (F.records folder.now) (F.files folder.now) }
+{
+    let Shown { recorded, are_read } = shown;
+    let text = &mut lines.text;
+    push_steps(alloc, folder, &recorded.steps, LAST_STEPS, None, text);
+    push_unread(&recorded.unread, &mut lines.stderr);
+    if !push_last(folder, &recorded.steps, &mut lines.stderr) || !*are_read {
+        return false;
+    }
+    are_none(&recorded.unread)
+}
+
 /// Prints the status of a folder, also if its steps can't be read. Returns whether each step is
 /// whole, and the servers are known to serve what is in place.
-// open: what is printed, and what is returned: rows, and bench/outside.
+// open: what is printed, and what a server serves: rows, and bench/outside.
 pub fn push_status<R, D, F>(
     call: &StageCall<'_, R, D>,
     folder: &F,
@@ -142,24 +196,16 @@ where
     R: Files + AllocGlobal + Clock + Net<Stream = TcpStream>,
     D: Disk,
     F: StageFolder,
+    ensures { IfOk result (λ served. served ≡ true
+        → IsWhole (F.records folder.now) (F.files folder.now)) }
 {
     let alloc = call.rt.alloc();
-    let (recorded, are_read) = steps_shown(alloc, folder, &mut lines.stderr);
-    let in_place = push_in_place(call, folder, &recorded.steps, lines);
-    push_steps(
-        alloc,
-        folder,
-        &recorded.steps,
-        LAST_STEPS,
-        None,
-        &mut lines.text,
-    );
-    push_unread(&recorded.unread, &mut lines.stderr);
-    let is_whole = push_states(folder, last_step(&recorded.steps), &mut lines.stderr);
-    let all_read = are_read && recorded.unread.is_empty();
-    drop(recorded);
+    let shown = steps_shown(alloc, folder, &mut lines.stderr);
+    let in_place = push_in_place(call, folder, &shown.recorded.steps, lines);
+    let is_whole = push_shown(alloc, folder, &shown, lines);
+    drop(shown);
     match in_place {
-        Ok(is_served) => Ok(is_whole && is_served && all_read),
+        Ok(is_served) => Ok(is_whole && is_served),
         Err(stop) => Err(stop),
     }
 }

@@ -68,6 +68,10 @@ pub(crate) fn push_since(alloc: Global, text: &mut TextBuffer, step: &StagingSte
 fn push_action(text: &mut TextBuffer, action: &StepAction) {
     match action {
         StepAction::Halt { appid } => text.push_printed(": halt ", appid.as_str(), ""),
+        StepAction::HaltRelease { appid, version } => {
+            text.push_printed(": halt ", appid.as_str(), "");
+            text.push_printed(" ", version.as_str(), "");
+        }
         StepAction::Raise { appid, buckets } => {
             text.push_printed(": raise ", appid.as_str(), "");
             text.push_number(" ", *buckets as u64, "");

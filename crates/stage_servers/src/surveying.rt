@@ -1,7 +1,14 @@
 //! What the servers of a folder serve, before anything is changed: which step's files, by the
 //! digest that each server names.
 
-// No contract says what a server serves, or what is printed: bench/outside tests it.
+// What a server replies is its own: bench/outside tests it.
+
+ghost use Rattle.std.specs.Prelude.{◌≡◌, ◌++◌, ◌∷◌, ℕ, List, [], All, IfOk, IfSome, OnOk};
+ghost use Rattle.std.specs.Prelude.{Option, Some, true};
+ghost use Rattle.bounded_files.specs.Files.{KnownFiles};
+ghost use Rattle.load.specs.Opened.{IsCollected};
+ghost use Rattle.stage_servers.specs.Drift.{IsServedBy, IsSurveyed};
+ghost use Rattle.stage_servers.specs.Served.{IsGatheredAs};
 
 use crate::collected::app_named;
 use crate::load_notes::{note_of, read_notes};
@@ -34,10 +41,18 @@ impl Place {
             None => &[],
         }
     }
+}
 
-    fn digest(&self) -> Option<[u8; 32]> {
-        let present = self.present.as_ref()?;
-        digest_of(&present.bytes, &present.sources.apps)
+// Whether what is in place has this digest.
+fn is_in_place(place: &Place, digest: [u8; 32]) -> bool
+    ensures { result ≡ true → IsGatheredAs digest place.now.present }
+{
+    let Some(present) = &place.present else {
+        return false;
+    };
+    match digest_of(&present.bytes, &present.sources.apps) {
+        Some(found) => found == digest,
+        None => false,
     }
 }
 
@@ -74,6 +89,8 @@ where
     R: AllocGlobal,
     D: Disk,
     F: StageFolder,
+    ensures { IfOk result (λ place. IfSome place.present
+        (IsCollected (D.known call.now.disk.now) call.now.manifest.now)) }
 {
     let alloc = call.rt.alloc();
     let Ok(notes) = read_notes(alloc, folder) else {
@@ -111,6 +128,8 @@ fn served_else<R>(
 ) -> Result<Serves, AllocError>
 where
     R: AllocGlobal + Net<Stream = TcpStream>,
+    ensures { IfOk result (λ serves. (known : KnownFiles) (current : List ℕ)
+        (digest : Option (List ℕ)) → IsServedBy known current digest serves) }
 {
     let alloc = rt.alloc();
     if let Some(note) = note_of(place.notes.as_str(), port)
@@ -129,27 +148,73 @@ where
     }
 }
 
-// What a server with this state serves.
+// What a server serves that replied this digest in its state.
 fn served_by<R, D>(
     call: &StageCall<'_, R, D>,
     port: u16,
     place: &Place,
     state: ServerState<'_>,
+    digest: [u8; 32],
 ) -> Result<Serves, AllocError>
 where
     R: AllocGlobal + Net<Stream = TcpStream>,
     D: Disk,
+    requires { IfSome place.now.present
+        (IsCollected (D.known call.now.disk.now) call.now.manifest.now) }
+    ensures { IfOk result
+        (IsServedBy (D.known call.now.disk.now) call.now.manifest.now (Some digest)) }
 {
-    let Some(digest) = digest_bytes(state.digest) else {
-        return Ok(Serves::Unknown);
-    };
-    if place.digest() == Some(digest) {
+    if is_in_place(place, digest) {
         return Ok(Serves::InPlace);
     }
     match step_with(call, place.steps(), digest)? {
         Some(found) => Ok(found),
-        None => served_else(call.rt, port, place, state),
+        None => {
+            let other = served_else(call.rt, port, place, state)?;
+            Ok(other)
+        }
     }
+}
+
+// The digest that a server replied, and what it therefore serves.
+#[derive(Drop)]
+struct Reply {
+    digest: Option<[u8; 32]>,
+    serves: Serves,
+}
+
+// The same by the lines of its state; nobody knows, if these have no digest.
+fn reply_of<R, D>(
+    call: &StageCall<'_, R, D>,
+    port: u16,
+    place: &Place,
+    lines: &str,
+) -> Result<Reply, AllocError>
+where
+    R: AllocGlobal + Net<Stream = TcpStream>,
+    D: Disk,
+    requires { IfSome place.now.present
+        (IsCollected (D.known call.now.disk.now) call.now.manifest.now) }
+    ensures { IfOk result (λ reply. IsServedBy (D.known call.now.disk.now)
+        call.now.manifest.now reply.digest reply.serves) }
+{
+    let Some(state) = state_in(lines) else {
+        return Ok(Reply {
+            digest: None,
+            serves: Serves::Unknown,
+        });
+    };
+    let Some(digest) = digest_bytes(state.digest) else {
+        return Ok(Reply {
+            digest: None,
+            serves: Serves::Unknown,
+        });
+    };
+    let serves = served_by(call, port, place, state, digest)?;
+    Ok(Reply {
+        digest: Some(digest),
+        serves,
+    })
 }
 
 fn surveyed_at<R, D>(
@@ -160,46 +225,60 @@ fn surveyed_at<R, D>(
 where
     R: AllocGlobal + Net<Stream = TcpStream>,
     D: Disk,
+    requires { IfSome place.now.present
+        (IsCollected (D.known call.now.disk.now) call.now.manifest.now) }
+    ensures { IfOk result (IsSurveyed (D.known call.now.disk.now) call.now.manifest.now) }
 {
     let alloc = call.rt.alloc();
-    let Ok(reply) = ask_server(call.rt, OperatorRequest::State, port) else {
+    let Ok(lines) = ask_server(call.rt, OperatorRequest::State, port) else {
         return Ok(Surveyed {
             port,
+            digest: None,
             serves: Serves::Unknown,
             halted: Vec::new(alloc),
         });
     };
-    let serves = match state_in(reply.as_str()) {
-        Some(state) => served_by(call, port, place, state)?,
-        None => Serves::Unknown,
-    };
-    match halted_in(alloc, reply.as_str()) {
-        Ok(halted) => Ok(Surveyed {
+    let halted = halted_in(alloc, lines.as_str())?;
+    match reply_of(call, port, place, lines.as_str()) {
+        Ok(Reply { digest, serves }) => Ok(Surveyed {
             port,
+            digest,
             serves,
             halted,
         }),
         Err(_) => {
-            drop(serves);
+            drop(halted);
             Err(AllocError)
         }
     }
+}
+
+fn push_surveyed(servers: &mut Vec<Surveyed>, server: Surveyed) -> Result<(), AllocError>
+    ensures { OnOk result (servers.new.items ≡ servers.old.items ++ server ∷ []) }
+{
+    servers.push(server)?;
+    Ok(())
 }
 
 fn survey_each<R, D>(call: &StageCall<'_, R, D>, place: &Place) -> Result<Vec<Surveyed>, AllocError>
 where
     R: AllocGlobal + Net<Stream = TcpStream>,
     D: Disk,
+    requires { IfSome place.now.present
+        (IsCollected (D.known call.now.disk.now) call.now.manifest.now) }
+    ensures { IfOk result (λ servers.
+        All (IsSurveyed (D.known call.now.disk.now) call.now.manifest.now) servers.items) }
 {
     let mut servers = Vec::new(call.rt.alloc());
     for port in call.options.ports() {
-        servers.push(surveyed_at(call, *port, place)?)?;
+        let server = surveyed_at(call, *port, place)?;
+        push_surveyed(&mut servers, server)?;
     }
     Ok(servers)
 }
 
 /// What each server serves, before this action; none if no server is to load.
-// open: what a server serves: bench/outside.
+// open: whether an allocation fails, its one error; what a server replies: bench/outside.
 pub fn survey<R, D, F>(
     call: &StageCall<'_, R, D>,
     folder: &F,
@@ -209,6 +288,8 @@ where
     R: AllocGlobal + Net<Stream = TcpStream>,
     D: Disk,
     F: StageFolder,
+    ensures { IfOk result (λ servers.
+        All (IsSurveyed (D.known call.now.disk.now) call.now.manifest.now) servers.items) }
 {
     if call.options.no_load {
         return Ok(Vec::new(call.rt.alloc()));

@@ -1,0 +1,40 @@
+-- What a server serves, and when an action goes on there.
+use Rattle.std.proofs.Common.{◌≡◌, ◌∙◌, ap, refl, Bool, true, false}
+use Rattle.std.specs.Prelude.{◌||◌, not, IfSome, List, ℕ, Option, Some, None}
+use Rattle.bounded_files.specs.Files.{KnownFiles}
+use Rattle.load.specs.Opened.{IsCollected}
+use Rattle.load.specs.declared.opened.CollectedManifest.{CollectedManifest}
+use Rattle.stage_servers.specs.Drift.{IsServedBy, stops_by}
+use Rattle.stage_servers.specs.Served.{IsGatheredAs}
+use Rattle.stage_servers.specs.declared.serves.Serves.TheVariants.{InPlace}
+
+pub in_place : (known : KnownFiles) (current digest : List ℕ)
+    (present : Option CollectedManifest) → IfSome present (IsCollected known current)
+    → IsGatheredAs digest present → IsServedBy known current (Some digest) InPlace
+in_place known current digest (Some manifest) is has = (manifest, is, has)
+in_place known current digest None is has = absurd has
+
+pub halt_goes_on : (halts strange other expected anyway : Bool) → halts ≡ true
+    → stops_by halts strange other expected anyway ≡ false
+halt_goes_on halts strange other expected anyway is =
+    ap (λ h. stops_by h strange other expected anyway) is
+
+pub other_goes_on : (halts strange other expected anyway : Bool) → strange ≡ true → other ≡ true
+    → stops_by halts strange other expected anyway ≡ false
+other_goes_on true strange other expected anyway is so = refl
+other_goes_on false strange other expected anyway is so =
+    ap (λ s. stops_by false s other expected anyway) is ∙ ap not so
+
+pub expected_goes_on : (halts strange other expected anyway : Bool) → strange ≡ false
+    → expected ≡ true → stops_by halts strange other expected anyway ≡ false
+expected_goes_on true strange other expected anyway is so = refl
+expected_goes_on false strange other expected anyway is so =
+    ap (λ s. stops_by false s other expected anyway) is ∙ ap (λ e. not (e || anyway)) so
+
+pub anyway_goes_on : (halts strange other expected anyway : Bool) → strange ≡ false
+    → anyway ≡ true → stops_by halts strange other expected anyway ≡ false
+anyway_goes_on true strange other expected anyway is so = refl
+anyway_goes_on false strange other true anyway is so =
+    ap (λ s. stops_by false s other true anyway) is
+anyway_goes_on false strange other false anyway is so =
+    ap (λ s. stops_by false s other false anyway) is ∙ ap (λ a. not (false || a)) so

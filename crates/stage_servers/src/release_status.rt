@@ -1,0 +1,67 @@
+//! Which releases of an app are halted by themselves, since when, by whom and why.
+
+// No contract says what is printed: rows compare it.
+
+use crate::app_status::Standing;
+use crate::step_lines::push_since;
+use load::AppSources;
+use printing::TextBuffer;
+use stage_records::{StagingStep, StepAction};
+use staging::known_offer;
+
+// The version of this app that a step halts, unless it is undone.
+fn version_of<'a>(step: &'a StagingStep, appid: &str) -> Option<&'a str> {
+    match &step.action {
+        StepAction::HaltRelease {
+            appid: halted,
+            version,
+        } if !step.is_undone && halted.as_str() == appid => Some(version.as_str()),
+        _ => None,
+    }
+}
+
+fn halts(step: &StagingStep, appid: &str, version: &str) -> bool {
+    match version_of(step, appid) {
+        Some(halted) => halted == version,
+        None => false,
+    }
+}
+
+// Whether a step after this one halts the same version.
+fn is_halted_later(steps: &[StagingStep], number: u32, appid: &str, version: &str) -> bool {
+    for step in steps {
+        if step.number > number && halts(step, appid, version) {
+            return true;
+        }
+    }
+    false
+}
+
+// Whether an app's file surely offers a version.
+fn is_offered(standing: &Standing<'_>, app: &AppSources, version: &str) -> bool {
+    matches!(known_offer(standing.alloc, app, version), Ok(Some(true)))
+}
+
+/// Adds a line of each release of an app that is halted by itself, and that its file doesn't offer.
+pub(crate) fn push_releases(
+    standing: &Standing<'_>,
+    app: &AppSources,
+    indent: &str,
+    text: &mut TextBuffer,
+) {
+    let appid = app.entry.appid();
+    for step in standing.steps {
+        if let Some(version) = version_of(step, appid)
+            && !is_halted_later(standing.steps, step.number, appid, version)
+            && !is_offered(standing, app, version)
+        {
+            text.push(indent);
+            text.push_printed("", version, " HALTED ");
+            push_since(standing.alloc, text, step, standing.now);
+            if let Some(because) = &step.because {
+                text.push_printed(": ", because.as_str(), "");
+            }
+            text.push("\n");
+        }
+    }
+}
