@@ -1,7 +1,8 @@
 -- Shares of the buckets, and the length of a note.
 use Rattle.std.proofs.Common.{◌≡◌, ◌∙◌, sym, ap, refl, subst, arith, ℕ, ◌*◌, ◌<◌, ◌≤◌}
 use Rattle.std.proofs.Common.{List, [], ◌∷◌, ◌++◌, length, Some, None, inl, inr}
-use Rattle.std.specs.Prelude.{IfSome}
+use Rattle.std.specs.Prelude.{IfSome, codes, false}
+use Rattle.std.specs.Str.{bytes_eq}
 use Rattle.std.proofs.lemmas.List.{append_cancel_right}
 use Rattle.std.proofs.lemmas.Str.Pattern.{strip_suffix_char}
 use Rattle.std.specs.Str.Pattern.{FindsCharSuffix}
@@ -48,20 +49,26 @@ third (a ∷ []) = []
 third (a ∷ b ∷ []) = []
 third (a ∷ b ∷ c ∷ more) = c
 
--- the third word gives no buckets
-pub no_share : (word appid number : Text) → ((n : ℕ) → ¬ GivesBuckets number n)
-    → SpellNone (word ∷ appid ∷ number ∷ [])
-no_share word appid number none (action.Raise app buckets) spelled =
+abbrev first : List Text → Text
+first [] = []
+first (a ∷ more) = a
+
+-- the third word gives no buckets, and the first one isn't that of a halt
+pub no_share : (word appid number : Text) → bytes_eq word (codes "halt") ≡ false
+    → ((n : ℕ) → ¬ GivesBuckets number n) → SpellNone (word ∷ appid ∷ number ∷ [])
+no_share word appid number other none (action.Raise app buckets) spelled =
     none buckets (subst (λ t. GivesBuckets t buckets) (sym (ap third spelled.1)) spelled.2)
-no_share word appid number none (action.Resume app (Some buckets)) spelled =
+no_share word appid number other none (action.Resume app (Some buckets)) spelled =
     none buckets (subst (λ t. GivesBuckets t buckets) (sym (ap third spelled.1)) spelled.2)
-no_share word appid number none (action.Resume app None) spelled = cc
-no_share word appid number none (action.Halt app) spelled = cc
-no_share word appid number none action.Back spelled = cc
-no_share word appid number none (action.Put manifest) spelled = cc
-no_share word appid number none action.Status spelled = cc
-no_share word appid number none (action.History None) spelled = cc
-no_share word appid number none (action.History (Some app)) spelled = cc
+no_share word appid number other none (action.Resume app None) spelled = cc
+no_share word appid number other none (action.Halt app) spelled = cc
+no_share word appid number other none (action.HaltRelease app version) spelled =
+    absurd (let halts = ap (λ words. bytes_eq (first words) (codes "halt")) spelled in cc)
+no_share word appid number other none action.Back spelled = cc
+no_share word appid number other none (action.Put manifest) spelled = cc
+no_share word appid number other none action.Status spelled = cc
+no_share word appid number other none (action.History None) spelled = cc
+no_share word appid number other none (action.History (Some app)) spelled = cc
 
 -- ---- notes
 

@@ -15,6 +15,8 @@ use Rattle.tool_words.specs.declared.args.StageArgs.{StageArgs}
 -- the words spell this action
 abbrev pub Spell : List Text → StageAction → Type 0
 Spell words (action.Halt appid) = words ≡ codes "halt" ∷ appid.now ∷ []
+Spell words (action.HaltRelease appid version) =
+    words ≡ codes "halt" ∷ appid.now ∷ version.now ∷ []
 Spell words (action.Raise appid buckets) = (number : Text)
     × (words ≡ codes "raise" ∷ appid.now ∷ number ∷ []) × GivesBuckets number buckets
 Spell words (action.Resume appid None) = words ≡ codes "resume" ∷ appid.now ∷ []

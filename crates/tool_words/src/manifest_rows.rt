@@ -141,8 +141,8 @@ pub(crate) const STAGE: CommandRow<ToolVerb> = CommandRow {
     arguments: &[
         CommandArgument::Words(
             "ACTION",
-            "halt APPID, resume APPID [SHARE], raise APPID SHARE, back,\n\
-             put MANIFEST, status or history [APPID]",
+            "halt APPID [VERSION], resume APPID [SHARE], raise APPID SHARE,\n\
+             back, put MANIFEST, status or history [APPID]",
         ),
         CommandArgument::Texts(
             "operator",

@@ -137,22 +137,48 @@ fn action_on<'a>(word: &str, object: &'a str) -> Option<StageAction<'a>>
     }
 }
 
-#[tactic(auto, using(crate::proofs::Percents::no_share))]
-fn action_with<'a>(word: &str, appid: &'a str, number: &str) -> Option<StageAction<'a>>
-    ensures given { IfSome result (specs.Spell (word.now ∷ appid.now ∷ number.now ∷ [])) }
+fn action_with<'a>(word: &str, appid: &'a str, object: &'a str) -> Option<StageAction<'a>>
+    ensures given { IfSome result (specs.Spell (word.now ∷ appid.now ∷ object.now ∷ [])) }
     ensures lacking { IfNone result
-        (specs.SpellNone (word.now ∷ appid.now ∷ number.now ∷ [])) }
+        (specs.SpellNone (word.now ∷ appid.now ∷ object.now ∷ [])) }
 {
-    let Some(buckets) = buckets_in(number) else {
-        return None;
-    };
     match word {
-        "raise" => Some(StageAction::Raise { appid, buckets }),
-        "resume" => Some(StageAction::Resume {
+        "halt" => Some(StageAction::HaltRelease {
+            appid,
+            version: object,
+        }),
+        "raise" => raise_of(appid, object),
+        "resume" => resume_of(appid, object),
+        _ => None,
+    }
+}
+
+#[tactic(auto, using(crate::proofs::Percents::no_share))]
+fn raise_of<'a>(appid: &'a str, number: &str) -> Option<StageAction<'a>>
+    ensures given { IfSome result
+        (specs.Spell (codes "raise" ∷ appid.now ∷ number.now ∷ [])) }
+    ensures lacking { IfNone result
+        (specs.SpellNone (codes "raise" ∷ appid.now ∷ number.now ∷ [])) }
+{
+    match buckets_in(number) {
+        Some(buckets) => Some(StageAction::Raise { appid, buckets }),
+        None => None,
+    }
+}
+
+#[tactic(auto, using(crate::proofs::Percents::no_share))]
+fn resume_of<'a>(appid: &'a str, number: &str) -> Option<StageAction<'a>>
+    ensures given { IfSome result
+        (specs.Spell (codes "resume" ∷ appid.now ∷ number.now ∷ [])) }
+    ensures lacking { IfNone result
+        (specs.SpellNone (codes "resume" ∷ appid.now ∷ number.now ∷ [])) }
+{
+    match buckets_in(number) {
+        Some(buckets) => Some(StageAction::Resume {
             appid,
             buckets: Some(buckets),
         }),
-        _ => None,
+        None => None,
     }
 }
 
