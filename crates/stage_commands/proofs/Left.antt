@@ -2,17 +2,21 @@
 use Rattle.std.proofs.Common.{◌≡◌, ◌∙◌, ap, refl, subst, sym, ℕ, List, [], ◌∷◌, true}
 use Rattle.std.proofs.Common.{false, zero, suc, inl, inr}
 use Rattle.std.specs.Prelude.{Some, None, Result, Ok, Err, IfErr, OnOk, IfSome, option_map}
+use Rattle.std.specs.Prelude.{option_copied}
 use Rattle.stage_records.specs.Steps.{ReplacedFile, StagingStep, last_step}
 use Rattle.stage_records.specs.declared.step.StepAction.{StepAction}
 use Rattle.stage_folder.specs.Folders.{IsFree, KnownFolder, KnownRecords}
 use Rattle.stage_folder.specs.Recorded.{AreRecorded, IsRecorded, MayBeRecorded}
 use Rattle.stage_folder.specs.Steps.{IsFoundBy, IsPartlyDone, IsPartlyUndone, done}
-use Rattle.stage_folder.specs.Steps.{edited_place, has_distinct_names, undone}
+use Rattle.stage_folder.specs.Steps.{has_distinct_names, undone}
 use Rattle.stage_folder.specs.declared.records.RecordedSteps.{RecordedSteps}
 use Rattle.stage_commands.specs.Backs.{Undoes}
-use Rattle.stage_commands.specs.Taken.{AddAtMostOne, AreAllRead, IsLast, IsLeft, IsLeftUndone, IsNext}
+use Rattle.stage_commands.specs.Taken.{AddAtMostOne, IsLast, IsLeft, IsLeftUndone}
+use Rattle.stage_servers.specs.Whole.{AreAllRead}
+use Rattle.stage_commands.specs.Taken.{IsNext}
 use Rattle.stage_commands.specs.Taken.{LeftBy, LeftByUndo, MayChange, as_undone}
 use Rattle.stage_commands.specs.Taken.{Performs, Takes, unchanged, partly_done, partly_undone}
+use Rattle.stage_servers.specs.declared.options.StageOptions.{StageOptions}
 use Rattle.stage_servers.specs.declared.outcome.Stop.{Stop}
 use Rattle.stage_servers.specs.declared.outcome.Stop.TheVariants as stop
 
@@ -111,27 +115,33 @@ performs_none step records folder none = record {
       ∙ ap (λ (files : List ReplacedFile). option_map (done files) folder) (sym none);
 }
 
-pub takes_by : (number : ℕ) (did : StepAction) (files : List ReplacedFile) (step : StagingStep)
+pub takes_by : (options : StageOptions) (number : ℕ) (did : StepAction)
+    (files : List ReplacedFile) (step : StagingStep)
     (old_records new_records : KnownRecords) (old new : KnownFolder)
     → Performs step old_records new_records old new → step.number ≡ number → step.action ≡ did
+    → step.user ≡ option_copied options.user → step.because ≡ option_copied options.because
     → step.files ≡ files → step.is_undone ≡ false
-    → Takes number did files old_records new_records old new
-takes_by number did files step old_records new_records old new is numbered acts of not_yet =
+    → Takes options number did files old_records new_records old new
+takes_by options number did files step old_records new_records old new is numbered acts by why of
+    not_yet =
     record {
       step = step;
       number_is = numbered;
       action_is = acts;
+      user_is = by;
+      because_is = why;
       files_are = of;
       not_undone = not_yet;
       performed = is;
     }
 
-pub takes_files : (number : ℕ) (did : StepAction) (files wanted : List ReplacedFile)
-    (old_records new_records : KnownRecords) (old new : KnownFolder)
-    → Takes number did files old_records new_records old new → files ≡ wanted
-    → Takes number did wanted old_records new_records old new
-takes_files number did files wanted old_records new_records old new takes same =
-    subst (λ fs. Takes number did fs old_records new_records old new) same takes
+pub takes_files : (options : StageOptions) (number : ℕ) (did : StepAction)
+    (files wanted : List ReplacedFile) (old_records new_records : KnownRecords)
+    (old new : KnownFolder)
+    → Takes options number did files old_records new_records old new → files ≡ wanted
+    → Takes options number did wanted old_records new_records old new
+takes_files options number did files wanted old_records new_records old new takes same =
+    subst (λ fs. Takes options number did fs old_records new_records old new) same takes
 
 -- ---- undoing
 
@@ -181,13 +191,11 @@ restored_by why step old_records mid_records new_records old mid new may all sam
     (subst (λ r. MayBeRecorded (as_undone step) r new_records) same noted))
 
 pub undoes : (step : StagingStep) (old_records mid_records new_records : KnownRecords)
-    (old mid new : KnownFolder)
-    → IfSome old (λ folder. edited_place step.files folder ≡ None)
-    → mid ≡ option_map (undone step.files) old → mid_records ≡ old_records
+    (old mid new : KnownFolder) → mid ≡ option_map (undone step.files) old
+    → mid_records ≡ old_records
     → IsRecorded (as_undone step) mid_records new_records → new ≡ mid
     → Undoes step old_records new_records old new
-undoes step old_records mid_records new_records old mid new unedited all same noted e = record {
-  unedited = unedited;
+undoes step old_records mid_records new_records old mid new all same noted e = record {
   restored = e ∙ all;
   recorded = subst (λ r. IsRecorded (as_undone step) r new_records) same noted;
 }
@@ -213,6 +221,10 @@ last_of records recorded step are is = record { recorded = recorded; are = are; 
 pub on_ok : {T E : Type 0} (r : Result T E) (P Q : Type 0) → (P → Q) → OnOk r P → OnOk r Q
 on_ok (Ok x) P Q f p = f p
 on_ok (Err e) P Q f p = tt
+
+pub on_ok_of : {T E : Type 0} (r : Result T E) (P : Type 0) → P → OnOk r P
+on_ok_of (Ok x) P p = p
+on_ok_of (Err e) P p = tt
 
 pub if_err : {T E : Type 0} (r : Result T E) (P Q : E → Type 0) → ((e : E) → P e → Q e)
     → IfErr r P → IfErr r Q

@@ -4,4 +4,5 @@ mod Left
 mod Put
 mod PutPlan
 mod Replacing
+mod Seen
 mod Then

@@ -8,12 +8,15 @@ use Rattle.load.specs.declared.sources.AppSources.{AppSources}
 use Rattle.manifest.specs.App.{file_of}
 use Rattle.stage_folder.specs.Folders.{GivesFile, KnownFolder}
 use Rattle.staging.specs.Halts.{Halts, halting_file}
-use Rattle.staging.specs.InForce.{is_in_force, last_halt}
+use Rattle.staging.specs.InForce.{is_resumable, last_halt}
 use Rattle.staging.specs.Raises.{IsRaised}
+use Rattle.staging.specs.ReleaseHalts.{IsWithout}
 use Rattle.stage_records.specs.Steps.{ReplacedFile, StagingStep}
-use Rattle.stage_commands.specs.Apps.{ReplacesBy}
+use Rattle.stage_servers.specs.declared.options.StageOptions.{StageOptions}
+use Rattle.stage_commands.specs.Apps.{ReplacesBy, shares_file}
 use Rattle.stage_servers.specs.Apps.{app_named}
 use Rattle.stage_servers.specs.Replaced.{file_named}
+use Rattle.stage_commands.specs.ReleaseHalts.{PlansReleaseHalt, PlansReleaseHaltOf}
 use Rattle.stage_commands.specs.Resumes.{IsCut, PlansResume, PlansResumeOf, WasBefore}
 use Rattle.stage_commands.specs.Resumes.{replaces_after}
 use Rattle.stage_commands.specs.Stages.{PlansHalt, PlansHaltOf, PlansRaise, PlansRaiseOf}
@@ -31,16 +34,44 @@ halt_of folder app found bytes file is halts given by = record {
   by = by folder given;
 }
 
-pub halt : (known : KnownFiles) (manifest appid : List ℕ) (collected : CollectedManifest)
+pub halt : (known : KnownFiles) (manifest appid : List ℕ) (options : StageOptions)
+    (collected : CollectedManifest)
     (app : AppSources) (folder : KnownFolder) (file : Option ReplacedFile)
     → IsCollected known manifest collected
     → app_named collected.sources.apps.items appid ≡ Some app
-    → PlansHaltOf folder app file → PlansHalt known manifest appid folder file
-halt known manifest appid collected app folder file is found plan = record {
+    → (options.anyway ≡ false → shares_file collected.sources.apps.items app ≡ false)
+    → PlansHaltOf folder app file → PlansHalt known manifest appid options folder file
+halt known manifest appid options collected app folder file is found alone plan = record {
   app = app;
-  is_app = record { manifest = collected; collected = is; found = found };
+  is_app = record { manifest = collected; collected = is; found = found; alone = alone };
   plan = plan;
 }
+
+pub release_of : (folder : KnownFolder) (app : AppSources) (version was text : List ℕ)
+    (file : Option ReplacedFile) → GivesFile folder (file_of app.entry.source) (Some was)
+    → IsWithout app.shape app.entry.releases version was text
+    → ((known : KnownFolder) → GivesFile known (file_of app.entry.source) (Some was)
+    → ReplacesBy known (file_of app.entry.source) text file)
+    → PlansReleaseHaltOf folder app version file
+release_of folder app version was text file given without by = record {
+  text = text;
+  leaves_out = record { was = was; given = given; without = without };
+  by = by folder given;
+}
+
+pub release : (known : KnownFiles) (manifest appid version : List ℕ) (options : StageOptions)
+    (collected : CollectedManifest) (app : AppSources) (folder : KnownFolder)
+    (file : Option ReplacedFile) → IsCollected known manifest collected
+    → app_named collected.sources.apps.items appid ≡ Some app
+    → (options.anyway ≡ false → shares_file collected.sources.apps.items app ≡ false)
+    → PlansReleaseHaltOf folder app version file
+    → PlansReleaseHalt known manifest appid version options folder file
+release known manifest appid version options collected app folder file is found alone plan =
+    record {
+      app = app;
+      is_app = record { manifest = collected; collected = is; found = found; alone = alone };
+      plan = plan;
+    }
 
 pub raise_of : (folder : KnownFolder) (app : AppSources) (buckets : ℕ) (was text : List ℕ)
     (file : Option ReplacedFile) → GivesFile folder (file_of app.entry.source) (Some was)
@@ -54,14 +85,16 @@ raise_of folder app buckets was text file given raised by = record {
   by = by folder given;
 }
 
-pub raise : (known : KnownFiles) (manifest appid : List ℕ) (buckets : ℕ)
+pub raise : (known : KnownFiles) (manifest appid : List ℕ) (buckets : ℕ) (options : StageOptions)
     (collected : CollectedManifest) (app : AppSources) (folder : KnownFolder)
     (file : Option ReplacedFile) → IsCollected known manifest collected
     → app_named collected.sources.apps.items appid ≡ Some app
-    → PlansRaiseOf folder app buckets file → PlansRaise known manifest appid buckets folder file
-raise known manifest appid buckets collected app folder file is found plan = record {
+    → (options.anyway ≡ false → shares_file collected.sources.apps.items app ≡ false)
+    → PlansRaiseOf folder app buckets file
+    → PlansRaise known manifest appid buckets options folder file
+raise known manifest appid buckets options collected app folder file is found alone plan = record {
   app = app;
-  is_app = record { manifest = collected; collected = is; found = found };
+  is_app = record { manifest = collected; collected = is; found = found; alone = alone };
   plan = plan;
 }
 
@@ -94,17 +127,18 @@ resume_of folder steps app buckets was text found file halted cut given by = rec
 }
 
 pub resume : (known : KnownFiles) (manifest appid : List ℕ) (buckets : Option ℕ)
-    (collected : CollectedManifest) (app : AppSources) (folder : KnownFolder)
-    (steps : List StagingStep) (file : Option ReplacedFile)
+    (options : StageOptions) (collected : CollectedManifest) (app : AppSources)
+    (folder : KnownFolder) (steps : List StagingStep) (file : Option ReplacedFile)
     → IsCollected known manifest collected
     → app_named collected.sources.apps.items appid ≡ Some app
-    → is_in_force steps collected.sources.apps.items appid ≡ true
+    → (options.anyway ≡ false → shares_file collected.sources.apps.items app ≡ false)
+    → is_resumable steps collected.sources.apps.items appid ≡ true
     → PlansResumeOf folder steps app buckets file
-    → PlansResume known manifest appid buckets folder steps file
-resume known manifest appid buckets collected app folder steps file is found in_force plan =
-    record {
+    → PlansResume known manifest appid buckets options folder steps file
+resume known manifest appid buckets options collected app folder steps file is found alone in_force
+    plan = record {
       app = app;
-      is_app = record { manifest = collected; collected = is; found = found };
+      is_app = record { manifest = collected; collected = is; found = found; alone = alone };
       in_force = in_force;
       plan = plan;
     }

@@ -1,5 +1,5 @@
 -- What is known of each part makes the plan of a put.
-use Rattle.std.proofs.Common.{◌≡◌, ◌∙◌, sym, ℕ, List, Bool, false}
+use Rattle.std.proofs.Common.{◌≡◌, ℕ, List, Bool, false}
 use Rattle.std.specs.Prelude.{Option, None}
 use Rattle.bounded_files.specs.Files.{KnownFiles}
 use Rattle.load.specs.Opened.{IsCollected}
@@ -9,9 +9,10 @@ use Rattle.stage_folder.specs.Folders.{IsFree, KnownFolder, KnownRecords}
 use Rattle.stage_folder.specs.declared.records.RecordedSteps.{RecordedSteps}
 use Rattle.stage_records.specs.Steps.{ReplacedFile, StagingStep}
 use Rattle.stage_records.specs.declared.step.StepAction.TheVariants.{Put}
+use Rattle.stage_commands.specs.Compared.{IsAccepted}
 use Rattle.stage_commands.specs.PutPlans.{IsLiftedBy, IsPresent, IsPutPlan, IsUnrefused}
 use Rattle.stage_commands.specs.Puts.{AreChangesTo, LiftsNone, PlansPut, none_lifted, none_offered}
-use Rattle.stage_commands.specs.Taken.{AreAllRead}
+use Rattle.stage_servers.specs.Whole.{AreAllRead}
 use Rattle.stage_commands.specs.declared.puts.Plan.{Plan}
 use Rattle.stage_commands.specs.declared.puts.Present.{Present}
 use Rattle.stage_commands.specs.declared.puts.Present.TheVariants as present
@@ -22,20 +23,25 @@ pub lifts_none : (known : KnownFiles) (current : List ℕ) (folder : KnownFolder
     → IsLiftedBy steps there next lifted → lifted ≡ None
     → LiftsNone known current folder steps next
 lifts_none known current folder steps present.Nothing next lifted is some by none =
-    none_offered is (sym by ∙ none)
+    none_offered is (by none)
 lifts_none known current folder steps (present.Manifest manifest) next lifted is some by none =
-    none_lifted manifest is (sym by ∙ none)
+    none_lifted manifest is (by none)
 lifts_none known current folder steps (present.Refused why) next lifted is some by none =
     absurd some
 
 pub plans : (known : KnownFiles) (current manifest : List ℕ) (folder : KnownFolder)
     (steps : List StagingStep) (anyway : Bool) (files : List ReplacedFile)
-    (next : CollectedManifest) → IsCollected known manifest next
+    (next : CollectedManifest) → IsCollected known manifest next → IsAccepted next
     → AreChangesTo folder next.bytes.items next.sources.apps.items files
     → (anyway ≡ false → LiftsNone known current folder steps next.sources.apps.items)
     → PlansPut known current manifest folder steps anyway files
-plans known current manifest folder steps anyway files next collected are lifts =
-    record { next = next; collected = collected; changes = are; lifts_none = lifts }
+plans known current manifest folder steps anyway files next collected accepted are lifts = record {
+  next = next;
+  collected = collected;
+  accepted = accepted;
+  changes = are;
+  lifts_none = lifts;
+}
 
 pub put_plan : (known : KnownFiles) (current manifest : List ℕ) (anyway : Bool)
     (records : KnownRecords) (folder : KnownFolder) (plan : Plan) (recorded : RecordedSteps)

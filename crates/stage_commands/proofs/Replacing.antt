@@ -5,18 +5,22 @@ use Rattle.std.specs.Prelude.{Bool, IfSome, option_map, option_to_list, false}
 use Rattle.std.proofs.lemmas.List.Elements.{All-cons, All-nil}
 use Rattle.bounded_files.specs.Files.{KnownFiles}
 use Rattle.stage_folder.specs.Folders.{IsFree, KnownFolder, KnownRecords, put, put_known}
-use Rattle.stage_folder.specs.Steps.{IsFoundBy, done}
+use Rattle.stage_folder.specs.Steps.{IsFoundBy, done, edited_place}
 use Rattle.stage_folder.specs.declared.records.RecordedSteps.{RecordedSteps}
 use Rattle.stage_records.specs.Steps.{ReplacedFile, StagingStep, last_step}
 use Rattle.stage_records.specs.declared.step.StepAction.{StepAction}
-use Rattle.stage_records.specs.declared.step.StepAction.TheVariants.{Halt, Raise, Resume}
+use Rattle.stage_records.specs.declared.step.StepAction.TheVariants.{Halt, HaltRelease, Raise}
+use Rattle.stage_records.specs.declared.step.StepAction.TheVariants.{Resume}
+use Rattle.stage_servers.specs.declared.options.StageOptions.{StageOptions}
 use Rattle.stage_commands.specs.Apps.{Replaces, ReplacesBy}
-use Rattle.stage_commands.specs.Backs.{HasGoneBack, UndoingLiftsNone, Undoes}
+use Rattle.stage_commands.specs.Backs.{HasGoneBack, PlansBack, UndoingLiftsNone, Undoes}
 use Rattle.stage_commands.specs.Puts.{HasPut}
 use Rattle.stage_commands.specs.PutPlans.{IsPutPlan}
+use Rattle.stage_commands.specs.ReleaseHalts.{HasHaltedRelease, PlansReleaseHalt}
 use Rattle.stage_commands.specs.Resumes.{HasResumed, PlansResume}
 use Rattle.stage_commands.specs.Stages.{HasHalted, HasRaised, PlansHalt, PlansRaise}
-use Rattle.stage_commands.specs.Taken.{AreAllRead, IsTaken, Takes}
+use Rattle.stage_commands.specs.Taken.{IsTaken, Takes}
+use Rattle.stage_servers.specs.Whole.{AreAllRead}
 use Rattle.stage_commands.specs.declared.puts.Plan.{Plan}
 use Rattle.stage_commands.proofs.Put.{StepsLeave, found_changes, in_place}
 
@@ -46,79 +50,108 @@ found_file (Some folder) name bytes (Some file) by =
     All-cons (λ f. folder f.name ≡ f.before) file [] (ap folder by.0 ∙ by.2)
     (All-nil (λ f. folder f.name ≡ f.before))
 
-pub halt_found : (known : KnownFiles) (manifest appid : List ℕ) (folder : KnownFolder)
-    (file : Option ReplacedFile) → PlansHalt known manifest appid folder file
+pub halt_found : (known : KnownFiles) (manifest appid : List ℕ) (options : StageOptions)
+    (folder : KnownFolder) (file : Option ReplacedFile)
+    → PlansHalt known manifest appid options folder file
     → IfSome folder (IsFoundBy (option_to_list file))
-halt_found known manifest appid folder file plans = found_file folder _ _ file plans.plan.by
+halt_found known manifest appid options folder file plans = found_file folder _ _ file plans.plan.by
+
+pub release_found : (known : KnownFiles) (manifest appid version : List ℕ)
+    (options : StageOptions) (folder : KnownFolder) (file : Option ReplacedFile)
+    → PlansReleaseHalt known manifest appid version options folder file
+    → IfSome folder (IsFoundBy (option_to_list file))
+release_found known manifest appid version options folder file plans =
+    found_file folder _ _ file plans.plan.by
 
 pub raise_found : (known : KnownFiles) (manifest appid : List ℕ) (buckets : ℕ)
-    (folder : KnownFolder) (file : Option ReplacedFile)
-    → PlansRaise known manifest appid buckets folder file
+    (options : StageOptions) (folder : KnownFolder) (file : Option ReplacedFile)
+    → PlansRaise known manifest appid buckets options folder file
     → IfSome folder (IsFoundBy (option_to_list file))
-raise_found known manifest appid buckets folder file plans =
+raise_found known manifest appid buckets options folder file plans =
     found_file folder _ _ file plans.plan.by
 
 pub resume_found : (known : KnownFiles) (manifest appid : List ℕ) (buckets : Option ℕ)
-    (folder : KnownFolder) (steps : List StagingStep) (file : Option ReplacedFile)
-    → PlansResume known manifest appid buckets folder steps file
+    (options : StageOptions) (folder : KnownFolder) (steps : List StagingStep)
+    (file : Option ReplacedFile)
+    → PlansResume known manifest appid buckets options folder steps file
     → IfSome folder (IsFoundBy (option_to_list file))
-resume_found known manifest appid buckets folder steps file plans =
+resume_found known manifest appid buckets options folder steps file plans =
     found_file folder _ _ file plans.plan.by
 
-done_by : (number : ℕ) (did : StepAction) (files : List ReplacedFile)
+done_by : (options : StageOptions) (number : ℕ) (did : StepAction) (files : List ReplacedFile)
     (old_records new_records : KnownRecords) (old new : KnownFolder)
-    → Takes number did files old_records new_records old new → new ≡ option_map (done files) old
-done_by number did files old_records new_records old new takes =
+    → Takes options number did files old_records new_records old new
+    → new ≡ option_map (done files) old
+done_by options number did files old_records new_records old new takes =
     takes.performed.done ∙ ap (λ fs. option_map (done fs) old) takes.files_are
 
-taken : (number : ℕ) (did wanted : StepAction) (files : List ReplacedFile)
+taken : (options : StageOptions) (number : ℕ) (did wanted : StepAction) (files : List ReplacedFile)
     (old_records new_records : KnownRecords) (old new : KnownFolder) → did ≡ wanted
     → IsFree old_records number → IfSome old (IsFoundBy files)
-    → Takes number did files old_records new_records old new
-    → IsTaken wanted files old_records new_records old new
-taken number did wanted files old_records new_records old new is free found takes = record {
+    → Takes options number did files old_records new_records old new
+    → IsTaken options wanted files old_records new_records old new
+taken options number did wanted files old_records new_records old new is free found takes = record {
   number = number;
   free = free;
   found = found;
-  takes = subst (λ a. Takes number a files old_records new_records old new) is takes;
+  takes = subst (λ a. Takes options number a files old_records new_records old new) is takes;
 }
 
-module _ (known : KnownFiles) (manifest appid : List ℕ) (old_records new_records : KnownRecords)
-    (old new : KnownFolder) (file : Option ReplacedFile) (number : ℕ) (owned : List ℕ) where
-  pub halted : owned ≡ appid → IsFree old_records number → PlansHalt known manifest appid old file
-      → Takes number (Halt owned) (option_to_list file) old_records new_records old new
-      → HasHalted known manifest appid old_records new_records old new
+module _ (known : KnownFiles) (manifest appid : List ℕ) (options : StageOptions)
+    (old_records new_records : KnownRecords) (old new : KnownFolder)
+    (file : Option ReplacedFile) (number : ℕ) (owned : List ℕ) where
+  pub halted : owned ≡ appid → IsFree old_records number
+      → PlansHalt known manifest appid options old file
+      → Takes options number (Halt owned) (option_to_list file) old_records new_records old new
+      → HasHalted known manifest appid options old_records new_records old new
   halted own free plans takes = let plan = plans.plan in record {
     app = plans.app;
     is_app = plans.is_app;
     bytes = plan.bytes;
     halts = plan.halts;
-    replaced = replaces old new _ _ file plan.by (done_by _ _ _ _ _ old new takes);
+    replaced = replaces old new _ _ file plan.by (done_by _ _ _ _ _ _ old new takes);
     files = option_to_list file;
-    taken = taken number (Halt owned) (Halt appid) _ _ _ old new (ap (λ a. Halt a) own) free
+    taken = taken options number (Halt owned) (Halt appid) _ _ _ old new (ap (λ a. Halt a) own) free
+        (found_file old _ _ file plan.by) takes;
+  }
+
+  pub halted_release : (version : List ℕ) (did : StepAction) → did ≡ HaltRelease appid version
+      → IsFree old_records number → PlansReleaseHalt known manifest appid version options old file
+      → Takes options number did (option_to_list file) old_records new_records old new
+      → HasHaltedRelease known manifest appid version options old_records new_records old new
+  halted_release version did is free plans takes = let plan = plans.plan in record {
+    app = plans.app;
+    is_app = plans.is_app;
+    text = plan.text;
+    leaves_out = plan.leaves_out;
+    replaced = replaces old new _ _ file plan.by (done_by _ _ _ _ _ _ old new takes);
+    files = option_to_list file;
+    taken = taken options number did (HaltRelease appid version) _ _ _ old new is free
         (found_file old _ _ file plan.by) takes;
   }
 
   pub raised : (buckets : ℕ) → owned ≡ appid → IsFree old_records number
-      → PlansRaise known manifest appid buckets old file
-      → Takes number (Raise owned buckets) (option_to_list file) old_records new_records old new
-      → HasRaised known manifest appid buckets old_records new_records old new
+      → PlansRaise known manifest appid buckets options old file
+      → Takes options number (Raise owned buckets) (option_to_list file) old_records new_records
+      old new
+      → HasRaised known manifest appid buckets options old_records new_records old new
   raised buckets own free plans takes = let plan = plans.plan in record {
     app = plans.app;
     is_app = plans.is_app;
     text = plan.text;
     raises = plan.raises;
-    replaced = replaces old new _ _ file plan.by (done_by _ _ _ _ _ old new takes);
+    replaced = replaces old new _ _ file plan.by (done_by _ _ _ _ _ _ old new takes);
     files = option_to_list file;
-    taken = taken number (Raise owned buckets) (Raise appid buckets) _ _ _ old new
+    taken = taken options number (Raise owned buckets) (Raise appid buckets) _ _ _ old new
         (ap (λ a. Raise a buckets) own) free (found_file old _ _ file plan.by) takes;
   }
 
   pub resumed : (buckets : Option ℕ) (recorded : RecordedSteps) → owned ≡ appid
       → IsFree old_records number → AreAllRead old_records recorded
-      → PlansResume known manifest appid buckets old recorded.steps.items file
-      → Takes number (Resume owned buckets) (option_to_list file) old_records new_records old new
-      → HasResumed known manifest appid buckets old_records new_records old new
+      → PlansResume known manifest appid buckets options old recorded.steps.items file
+      → Takes options number (Resume owned buckets) (option_to_list file) old_records new_records
+      old new
+      → HasResumed known manifest appid buckets options old_records new_records old new
   resumed buckets recorded own free are plans takes = let plan = plans.plan in record {
     recorded = recorded;
     are = are;
@@ -127,42 +160,56 @@ module _ (known : KnownFiles) (manifest appid : List ℕ) (old_records new_recor
     in_force = plans.in_force;
     text = plan.text;
     resumes = plan.resumes;
-    replaced = replaces old new _ _ file plan.by (done_by _ _ _ _ _ old new takes);
+    replaced = replaces old new _ _ file plan.by (done_by _ _ _ _ _ _ old new takes);
     files = option_to_list file;
-    taken = taken number (Resume owned buckets) (Resume appid buckets) _ _ _ old new
+    taken = taken options number (Resume owned buckets) (Resume appid buckets) _ _ _ old new
         (ap (λ a. Resume a buckets) own) free (found_file old _ _ file plan.by) takes;
   }
 
-pub has_put : StepsLeave → (known : KnownFiles) (current manifest : List ℕ) (anyway : Bool)
-    (old_records new_records : KnownRecords) (old new : KnownFolder) (plan : Plan)
-    → IsPutPlan known current manifest anyway old_records old plan
-    → Takes plan.number plan.action plan.files.items old_records new_records old new
-    → HasPut known current manifest anyway old_records new_records old new
-has_put laws known current manifest anyway old_records new_records old new plan is takes =
+pub has_put : StepsLeave → (known : KnownFiles) (current manifest : List ℕ)
+    (options : StageOptions) (old_records new_records : KnownRecords) (old new : KnownFolder)
+    (plan : Plan) → IsPutPlan known current manifest options.anyway old_records old plan
+    → Takes options plan.number plan.action plan.files.items old_records new_records old new
+    → HasPut known current manifest options old_records new_records old new
+has_put laws known current manifest options old_records new_records old new plan is takes =
     record {
       recorded = is.recorded;
       are = is.are;
       files = plan.files.items;
       plan = is.files;
-      taken = taken plan.number plan.action _ _ _ _ old new is.action_is is.number_is
+      taken = taken options plan.number plan.action _ _ _ _ old new is.action_is is.number_is
           (found_changes old _ _ _ is.files.changes) takes;
       in_place = in_place laws old new _ _ plan.files.items is.files.changes
-          (done_by _ _ _ _ _ old new takes);
+          (done_by _ _ _ _ _ _ old new takes);
     }
+
+pub plans_back : (known : KnownFiles) (current : List ℕ) (anyway : Bool) (records : KnownRecords)
+    (files : KnownFolder) (recorded : RecordedSteps) (step : StagingStep)
+    → AreAllRead records recorded → Some step ≡ last_step recorded.steps.items
+    → (anyway ≡ false → IfSome (last_step recorded.steps.items)
+    (UndoingLiftsNone known current recorded.steps.items))
+    → IfSome files (λ folder. edited_place step.files folder ≡ None)
+    → PlansBack known current anyway records files
+plans_back known current anyway records files recorded step are last lifts unedited = record {
+  step = step;
+  last = record { recorded = recorded; are = are; last = sym last };
+  lifts_none = λ plain. subst (λ o. IfSome o
+      (UndoingLiftsNone known current recorded.steps.items)) (sym last) (lifts plain);
+  unedited = unedited;
+}
 
 pub gone_back : (known : KnownFiles) (current : List ℕ) (anyway : Bool)
     (old_records new_records : KnownRecords) (old new : KnownFolder) (recorded : RecordedSteps)
-    (step : StagingStep) (are : AreAllRead old_records recorded)
-    (last : Some step ≡ last_step recorded.steps.items)
+    (step : StagingStep) → AreAllRead old_records recorded
+    → Some step ≡ last_step recorded.steps.items
     → (anyway ≡ false → IfSome (last_step recorded.steps.items)
     (UndoingLiftsNone known current recorded.steps.items))
+    → IfSome old (λ folder. edited_place step.files folder ≡ None)
     → Undoes step old_records new_records old new
     → HasGoneBack known current anyway old_records new_records old new
-gone_back known current anyway old_records new_records old new recorded step are last lifts undoes =
-    record {
-      step = step;
-      last = record { recorded = recorded; are = are; last = sym last };
-      lifts_none = λ plain. subst (λ o. IfSome o
-          (UndoingLiftsNone known current recorded.steps.items)) (sym last) (lifts plain);
+unfolding plans_back
+gone_back known current anyway old_records new_records old new recorded step are last lifts unedited
+    undoes = record {
+      plan = plans_back known current anyway old_records old recorded step are last lifts unedited;
       undoes = undoes;
     }

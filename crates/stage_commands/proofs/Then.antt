@@ -12,10 +12,10 @@ use Rattle.load.specs.declared.load_fault.PathFault.{PathFault}
 use Rattle.load.specs.declared.load_fault.PathFault.TheVariants.{Load, Resource}
 use Rattle.load.specs.declared.opened.CollectedManifest.{CollectedManifest}
 use Rattle.stage_records.specs.Steps.{ReplacedFile, StagingStep}
-use Rattle.stage_commands.specs.Backs.{UndoingLiftsNone, lifted_by_undoing}
+use Rattle.stage_commands.specs.Backs.{LiftsNoneByUndoing, UndoingLiftsNone}
 use Rattle.stage_commands.specs.Befores.{GivesBefore, IsGathered, RefusesBefore, WasGathered}
 use Rattle.stage_commands.specs.Befores.{precedes_files}
-use Rattle.stage_servers.specs.Replaced.{bytes_then, file_named}
+use Rattle.stage_servers.specs.Replaced.{file_named}
 
 -- ---- manifests that can't be gathered
 
@@ -58,7 +58,8 @@ not_gathered_before known current replaced fault first refused is so =
 
 pub undoing_lifts_none : (known : KnownFiles) (current : List ℕ) (steps : List StagingStep)
     (step : StagingStep) (present before : Option CollectedManifest) (lifted : Option (List ℕ))
-    → lifted ≡ lifted_by_undoing steps step present before → IsGathered known current present
+    → (lifted ≡ None → LiftsNoneByUndoing steps step present before)
+    → IsGathered known current present
     → WasGathered known current step.files before → lifted ≡ None
     → UndoingLiftsNone known current steps step
 undoing_lifts_none known current steps step present before lifted is gathered was none = record {
@@ -66,5 +67,5 @@ undoing_lifts_none known current steps step present before lifted is gathered wa
   gathered = gathered;
   before = before;
   was_gathered = was;
-  lifts_none = sym is ∙ none;
+  lifts_none = is none;
 }

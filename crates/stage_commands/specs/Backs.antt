@@ -1,5 +1,5 @@
 -- What `back` does to the files of a folder, and what it doesn't undo.
-use Rattle.std.specs.Prelude.{◌≡◌, ℕ, List, Bool, true, false, Option, Some, None, IfSome}
+use Rattle.std.specs.Prelude.{◌≡◌, ℕ, List, Bool, false, Option, Some, None, IfSome}
 use Rattle.std.specs.Prelude.{option_map}
 use Rattle.bounded_files.specs.Files.{KnownFiles}
 use Rattle.load.specs.declared.opened.CollectedManifest.{CollectedManifest}
@@ -7,17 +7,17 @@ use Rattle.stage_folder.specs.Folders.{KnownFolder, KnownRecords}
 use Rattle.stage_folder.specs.Recorded.{IsRecorded}
 use Rattle.stage_folder.specs.Steps.{edited_place, undone}
 use Rattle.stage_records.specs.Steps.{StagingStep}
-use Rattle.staging.specs.InForce.{app_of_halt, lifted_halt}
+use Rattle.staging.specs.InForce.{app_of_any_halt}
+use Rattle.staging.specs.Lifting.{LiftsNothing}
 use Rattle.stage_commands.specs.Befores.{IsGathered, WasGathered}
 use Rattle.stage_commands.specs.Taken.{IsLast, as_undone}
 
--- the app of a halt that undoing a step lifts; if a manifest can't be gathered, a halt counts as
--- lifted
-abbrev pub lifted_by_undoing : List StagingStep → StagingStep
-    → (present before : Option CollectedManifest) → Option (List ℕ)
-lifted_by_undoing steps step (Some present) (Some before) =
-    lifted_halt steps present.sources.apps.items before.sources.apps.items
-lifted_by_undoing steps step present before = app_of_halt step.action
+-- undoing a step lifts no halt; if a manifest can't be gathered, the step isn't a halt
+abbrev pub LiftsNoneByUndoing : List StagingStep → StagingStep
+    → (present before : Option CollectedManifest) → Type 0
+LiftsNoneByUndoing steps step (Some present) (Some before) =
+    LiftsNothing steps present.sources.apps.items before.sources.apps.items
+LiftsNoneByUndoing steps step present before = app_of_any_halt step.action ≡ None
 
 -- undoing a step lifts no halt of these steps, by the manifests in place and before it
 pub record UndoingLiftsNone (known : KnownFiles) (current : List ℕ) (steps : List StagingStep)
@@ -26,22 +26,27 @@ pub record UndoingLiftsNone (known : KnownFiles) (current : List ℕ) (steps : L
   pub gathered : IsGathered known current present
   pub before : Option CollectedManifest
   pub was_gathered : WasGathered known current step.files before
-  pub lifts_none : lifted_by_undoing steps step present before ≡ None
+  pub lifts_none : LiftsNoneByUndoing steps step present before
 
--- no file was edited since the step; each of its files is as it found it, all others are as
--- before, and its record says that it is undone
+-- each file of a step is as it found it, all others are as before, and its record says that it is
+-- undone
 pub record Undoes (step : StagingStep) (old_records new_records : KnownRecords)
     (old new : KnownFolder) : Type 0 where
-  pub unedited : IfSome old (λ folder. edited_place step.files folder ≡ None)
   pub restored : new ≡ option_map (undone step.files) old
   pub recorded : IsRecorded (as_undone step) old_records new_records
 
 module _ (known : KnownFiles) (current : List ℕ) (anyway : Bool) where
-  -- the last step is undone, and without `--anyway` that lifts no halt
-  pub record HasGoneBack (old_records new_records : KnownRecords) (old new : KnownFolder)
-      : Type 0 where
+  -- what is to be undone: the last step, of which no file was edited since; without `--anyway` that
+  -- lifts no halt
+  pub record PlansBack (records : KnownRecords) (files : KnownFolder) : Type 0 where
     pub step : StagingStep
-    pub last : IsLast old_records step
+    pub last : IsLast records step
     pub lifts_none : anyway ≡ false
         → UndoingLiftsNone known current last.recorded.steps.items step
-    pub undoes : Undoes step old_records new_records old new
+    pub unedited : IfSome files (λ folder. edited_place step.files folder ≡ None)
+
+  -- it is undone
+  pub record HasGoneBack (old_records new_records : KnownRecords) (old new : KnownFolder)
+      : Type 0 where
+    pub plan : PlansBack old_records old
+    pub undoes : Undoes plan.step old_records new_records old new

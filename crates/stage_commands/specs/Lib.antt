@@ -4,8 +4,10 @@ pub mod Compared
 pub mod Counters
 pub mod Taken
 pub mod Stages
+pub mod ReleaseHalts
 pub mod Resumes
 pub mod Puts
 pub mod PutPlans
 pub mod Backs
 pub mod Actions
+pub mod Planned

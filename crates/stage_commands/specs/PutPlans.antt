@@ -8,9 +8,9 @@ use Rattle.stage_folder.specs.declared.records.RecordedSteps.{RecordedSteps}
 use Rattle.stage_folder.specs.Steps.{has_name, left_by}
 use Rattle.stage_records.specs.Steps.{ReplacedFile, StagingStep}
 use Rattle.stage_records.specs.declared.step.StepAction.TheVariants.{Put}
-use Rattle.staging.specs.InForce.{lifted_halt}
+use Rattle.staging.specs.Lifting.{LiftsNothing}
 use Rattle.stage_commands.specs.Puts.{PlansPut}
-use Rattle.stage_commands.specs.Taken.{AreAllRead}
+use Rattle.stage_servers.specs.Whole.{AreAllRead}
 use Rattle.stage_commands.specs.declared.put_files.Content.{Content}
 use Rattle.stage_commands.specs.declared.put_files.Content.TheVariants as content
 use Rattle.stage_commands.specs.declared.puts.Plan.{Plan}
@@ -28,12 +28,12 @@ abbrev pub IsUnrefused : Present → Type 0
 IsUnrefused (present.Refused why) = ⊥
 IsUnrefused other = Unit {0}
 
--- the app of the first halt in force that the next manifest lifts
+-- the app of a halt in force that the next manifest lifts; without one, it lifts none
 abbrev pub IsLiftedBy : List StagingStep → Present → (next : List AppSources)
     → Option (List ℕ) → Type 0
-IsLiftedBy steps present.Nothing next lifted = lifted ≡ lifted_halt steps [] next
+IsLiftedBy steps present.Nothing next lifted = lifted ≡ None → LiftsNothing steps [] next
 IsLiftedBy steps (present.Manifest manifest) next lifted =
-    lifted ≡ lifted_halt steps manifest.sources.apps.items next
+    lifted ≡ None → LiftsNothing steps manifest.sources.apps.items next
 IsLiftedBy steps (present.Refused why) next lifted = Unit {0}
 
 -- what these files have under a name, compared with these bytes

@@ -13,8 +13,11 @@ use Rattle.stage_folder.specs.Steps.{is_change, left_by}
 use Rattle.stage_folder.specs.declared.records.RecordedSteps.{RecordedSteps}
 use Rattle.stage_records.specs.Steps.{ReplacedFile, StagingStep}
 use Rattle.stage_records.specs.declared.step.StepAction.TheVariants.{Put}
-use Rattle.staging.specs.InForce.{lifted_halt}
-use Rattle.stage_commands.specs.Taken.{AreAllRead, IsTaken}
+use Rattle.staging.specs.Lifting.{LiftsNothing}
+use Rattle.stage_servers.specs.declared.options.StageOptions.{StageOptions}
+use Rattle.stage_commands.specs.Compared.{IsAccepted}
+use Rattle.stage_commands.specs.Taken.{IsTaken}
+use Rattle.stage_servers.specs.Whole.{AreAllRead}
 
 -- ---- the files of a manifest
 
@@ -93,9 +96,9 @@ pub record AreChangesTo (known : KnownFolder) (manifest : List ℕ) (apps : List
 pub data LiftsNone (known : KnownFiles) (current : List ℕ) (folder : KnownFolder)
     (steps : List StagingStep) (next : List AppSources) : Type 0 where
   none_lifted : (manifest : CollectedManifest) → IsCollected known current manifest
-      → lifted_halt steps manifest.sources.apps.items next ≡ None
+      → LiftsNothing steps manifest.sources.apps.items next
       → LiftsNone known current folder steps next
-  none_offered : GivesFile folder (codes "current.toml") None → lifted_halt steps [] next ≡ None
+  none_offered : GivesFile folder (codes "current.toml") None → LiftsNothing steps [] next
       → LiftsNone known current folder steps next
 
 -- ---- the whole
@@ -116,17 +119,18 @@ module _ (known : KnownFiles) (current manifest : List ℕ) where
       (files : List ReplacedFile) : Type 0 where
     pub next : CollectedManifest
     pub collected : IsCollected known manifest next
+    pub accepted : IsAccepted next
     pub changes : AreChangesTo folder next.bytes.items next.sources.apps.items files
     pub lifts_none : anyway ≡ false
         → LiftsNone known current folder steps next.sources.apps.items
 
-  -- the manifest at a path and its files are in place, no other file has changed, and without
-  -- `--anyway` no halt that is recorded is lifted
-  pub record HasPut (anyway : Bool) (old_records new_records : KnownRecords)
+  -- the manifest at a path, of which no file is at fault, and its files are in place, no other file
+  -- has changed, and without `--anyway` no halt that is recorded is lifted
+  pub record HasPut (options : StageOptions) (old_records new_records : KnownRecords)
       (old new : KnownFolder) : Type 0 where
     pub recorded : RecordedSteps
     pub are : AreAllRead old_records recorded
     pub files : List ReplacedFile
-    pub plan : PlansPut old recorded.steps.items anyway files
-    pub taken : IsTaken (Put manifest) files old_records new_records old new
+    pub plan : PlansPut old recorded.steps.items options.anyway files
+    pub taken : IsTaken options (Put manifest) files old_records new_records old new
     pub in_place : AreInPlace new plan.next.bytes.items plan.next.sources.apps.items

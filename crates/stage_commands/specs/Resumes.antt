@@ -10,11 +10,13 @@ use Rattle.stage_folder.specs.Folders.{KnownFolder, KnownRecords}
 use Rattle.stage_folder.specs.declared.records.RecordedSteps.{RecordedSteps}
 use Rattle.stage_records.specs.Steps.{ReplacedFile, StagingStep}
 use Rattle.stage_records.specs.declared.step.StepAction.TheVariants.{Resume}
-use Rattle.staging.specs.InForce.{is_in_force, last_halt}
+use Rattle.staging.specs.InForce.{is_resumable, last_halt}
 use Rattle.staging.specs.Raises.{IsRaised}
 use Rattle.stage_commands.specs.Apps.{IsAppOf, Replaces, ReplacesBy}
 use Rattle.stage_servers.specs.Replaced.{file_named}
-use Rattle.stage_commands.specs.Taken.{AreAllRead, IsTaken}
+use Rattle.stage_servers.specs.declared.options.StageOptions.{StageOptions}
+use Rattle.stage_commands.specs.Taken.{IsTaken}
+use Rattle.stage_servers.specs.Whole.{AreAllRead}
 
 -- a step of a greater number, which isn't undone, replaced the file of this name
 abbrev pub replaces_after : (number : ℕ) → (name : List ℕ) → StagingStep → Bool
@@ -50,15 +52,17 @@ pub record PlansResumeOf (folder : KnownFolder) (steps : List StagingStep) (app 
   pub resumes : ResumesTo steps app buckets text
   pub by : ReplacesBy folder (file_of app.entry.source) text file
 
-module _ (known : KnownFiles) (manifest appid : List ℕ) (buckets : Option ℕ) where
+module _ (known : KnownFiles) (manifest appid : List ℕ) (buckets : Option ℕ)
+    (options : StageOptions) where
   pub record PlansResume (folder : KnownFolder) (steps : List StagingStep)
       (file : Option ReplacedFile) : Type 0 where
     pub app : AppSources
-    pub is_app : IsAppOf known manifest appid app
-    pub in_force : is_in_force steps is_app.manifest.sources.apps.items appid ≡ true
+    pub is_app : IsAppOf known manifest appid options.anyway app
+    pub in_force : is_resumable steps is_app.manifest.sources.apps.items appid ≡ true
     pub plan : PlansResumeOf folder steps app buckets file
 
-  -- a halt of the app is in force; its file then has what its last recorded halt found there,
+  -- a halt of the app is in force, or its last one is that of a release; its file then has what its
+  -- last recorded halt found there,
   -- but for the number of its threshold if one is given; all other files are as before, and the
   -- step is recorded
   pub record HasResumed (old_records new_records : KnownRecords) (old new : KnownFolder)
@@ -66,11 +70,11 @@ module _ (known : KnownFiles) (manifest appid : List ℕ) (buckets : Option ℕ)
     pub recorded : RecordedSteps
     pub are : AreAllRead old_records recorded
     pub app : AppSources
-    pub is_app : IsAppOf known manifest appid app
-    pub in_force : is_in_force recorded.steps.items is_app.manifest.sources.apps.items appid
+    pub is_app : IsAppOf known manifest appid options.anyway app
+    pub in_force : is_resumable recorded.steps.items is_app.manifest.sources.apps.items appid
         ≡ true
     pub text : List ℕ
     pub resumes : ResumesTo recorded.steps.items app buckets text
     pub replaced : Replaces old new (file_of app.entry.source) text
     pub files : List ReplacedFile
-    pub taken : IsTaken (Resume appid buckets) files old_records new_records old new
+    pub taken : IsTaken options (Resume appid buckets) files old_records new_records old new

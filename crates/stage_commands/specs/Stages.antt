@@ -8,6 +8,7 @@ use Rattle.staging.specs.Halts.{Halts, halting_file}
 use Rattle.staging.specs.Raises.{IsRaised}
 use Rattle.stage_records.specs.Steps.{ReplacedFile}
 use Rattle.stage_records.specs.declared.step.StepAction.TheVariants.{Halt, Raise}
+use Rattle.stage_servers.specs.declared.options.StageOptions.{StageOptions}
 use Rattle.stage_commands.specs.Apps.{IsAppOf, Replaces, ReplacesBy}
 use Rattle.stage_commands.specs.Taken.{IsTaken}
 
@@ -25,10 +26,10 @@ pub record PlansHaltOf (folder : KnownFolder) (app : AppSources) (file : Option 
   pub halts : HaltsBy app bytes
   pub by : ReplacesBy folder (file_of app.entry.source) bytes file
 
-module _ (known : KnownFiles) (manifest appid : List ℕ) where
+module _ (known : KnownFiles) (manifest appid : List ℕ) (options : StageOptions) where
   pub record PlansHalt (folder : KnownFolder) (file : Option ReplacedFile) : Type 0 where
     pub app : AppSources
-    pub is_app : IsAppOf known manifest appid app
+    pub is_app : IsAppOf known manifest appid options.anyway app
     pub plan : PlansHaltOf folder app file
 
   -- the app's file, as the manifest in place has it, then halts the app; all other files are as
@@ -36,12 +37,12 @@ module _ (known : KnownFiles) (manifest appid : List ℕ) where
   pub record HasHalted (old_records new_records : KnownRecords) (old new : KnownFolder)
       : Type 0 where
     pub app : AppSources
-    pub is_app : IsAppOf known manifest appid app
+    pub is_app : IsAppOf known manifest appid options.anyway app
     pub bytes : List ℕ
     pub halts : HaltsBy app bytes
     pub replaced : Replaces old new (file_of app.entry.source) bytes
     pub files : List ReplacedFile
-    pub taken : IsTaken (Halt appid) files old_records new_records old new
+    pub taken : IsTaken options (Halt appid) files old_records new_records old new
 
 -- ---- raise
 
@@ -59,20 +60,21 @@ pub record PlansRaiseOf (folder : KnownFolder) (app : AppSources) (buckets : ℕ
   pub raises : RaisesTo folder app buckets text
   pub by : ReplacesBy folder (file_of app.entry.source) text file
 
-module _ (known : KnownFiles) (manifest appid : List ℕ) (buckets : ℕ) where
-  pub record PlansRaise (folder : KnownFolder) (file : Option ReplacedFile) : Type 0 where
-    pub app : AppSources
-    pub is_app : IsAppOf known manifest appid app
-    pub plan : PlansRaiseOf folder app buckets file
+module _ (known : KnownFiles) (manifest appid : List ℕ) (buckets : ℕ) (options : StageOptions)
+  where
+    pub record PlansRaise (folder : KnownFolder) (file : Option ReplacedFile) : Type 0 where
+      pub app : AppSources
+      pub is_app : IsAppOf known manifest appid options.anyway app
+      pub plan : PlansRaiseOf folder app buckets file
 
-  -- the app's rule is then the one before with this number in its threshold; all other files are
-  -- as before, and the step is recorded
-  pub record HasRaised (old_records new_records : KnownRecords) (old new : KnownFolder)
-      : Type 0 where
-    pub app : AppSources
-    pub is_app : IsAppOf known manifest appid app
-    pub text : List ℕ
-    pub raises : RaisesTo old app buckets text
-    pub replaced : Replaces old new (file_of app.entry.source) text
-    pub files : List ReplacedFile
-    pub taken : IsTaken (Raise appid buckets) files old_records new_records old new
+    -- the app's rule is then the one before with this number in its threshold; all other files are
+    -- as before, and the step is recorded
+    pub record HasRaised (old_records new_records : KnownRecords) (old new : KnownFolder)
+        : Type 0 where
+      pub app : AppSources
+      pub is_app : IsAppOf known manifest appid options.anyway app
+      pub text : List ℕ
+      pub raises : RaisesTo old app buckets text
+      pub replaced : Replaces old new (file_of app.entry.source) text
+      pub files : List ReplacedFile
+      pub taken : IsTaken options (Raise appid buckets) files old_records new_records old new

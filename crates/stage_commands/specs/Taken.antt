@@ -1,19 +1,17 @@
 -- A step that is recorded and performed, and what a stop leaves.
 use Rattle.std.specs.Prelude.{◌≡◌, ◌⊎◌, ℕ, List, [], true, false, Some, IfSome, option_map}
+use Rattle.std.specs.Prelude.{option_copied}
 use Rattle.stage_folder.specs.Folders.{IsFree, KnownFolder, KnownRecords}
-use Rattle.stage_folder.specs.Recorded.{AreRecorded, IsRecorded}
+use Rattle.stage_folder.specs.Recorded.{IsRecorded}
 use Rattle.stage_folder.specs.Steps.{IsFoundBy, IsPartlyDone, IsPartlyUndone, done}
 use Rattle.stage_folder.specs.Steps.{has_distinct_names, undone}
 use Rattle.stage_folder.specs.declared.records.RecordedSteps.{RecordedSteps}
 use Rattle.stage_records.specs.Steps.{ReplacedFile, StagingStep, last_step}
 use Rattle.stage_records.specs.declared.step.StepAction.{StepAction}
+use Rattle.stage_servers.specs.Whole.{AreAllRead}
+use Rattle.stage_servers.specs.declared.options.StageOptions.{StageOptions}
 use Rattle.stage_servers.specs.declared.outcome.Stop.{Stop}
 use Rattle.stage_servers.specs.declared.outcome.Stop.TheVariants as stop
-
--- all records are read, and each is a step's
-pub record AreAllRead (records : KnownRecords) (recorded : RecordedSteps) : Type 0 where
-  pub are : AreRecorded records recorded
-  pub all_read : recorded.unread.items ≡ []
 
 -- the last recorded step that isn't undone
 pub record IsLast (records : KnownRecords) (step : StagingStep) : Type 0 where
@@ -31,23 +29,27 @@ pub record Performs (step : StagingStep) (old_records new_records : KnownRecords
   pub distinct : has_distinct_names step.files ≡ true
   pub done : new ≡ option_map (done step.files) old
 
--- a step of this number that does this and replaces these files
-pub record Takes (number : ℕ) (action : StepAction) (files : List ReplacedFile)
-    (old_records new_records : KnownRecords) (old new : KnownFolder) : Type 0 where
+-- a step of this number that does this and replaces these files, by the user and for the reason of
+-- the options
+pub record Takes (options : StageOptions) (number : ℕ) (action : StepAction)
+    (files : List ReplacedFile) (old_records new_records : KnownRecords) (old new : KnownFolder)
+    : Type 0 where
   pub step : StagingStep
   pub number_is : step.number ≡ number
   pub action_is : step.action ≡ action
+  pub user_is : step.user ≡ option_copied options.user
+  pub because_is : step.because ≡ option_copied options.because
   pub files_are : step.files ≡ files
   pub not_undone : step.is_undone ≡ false
   pub performed : Performs step old_records new_records old new
 
 -- no earlier record had its number, and it has the bytes that each file had before
-pub record IsTaken (action : StepAction) (files : List ReplacedFile)
+pub record IsTaken (options : StageOptions) (action : StepAction) (files : List ReplacedFile)
     (old_records new_records : KnownRecords) (old new : KnownFolder) : Type 0 where
   pub number : ℕ
   pub free : IsFree old_records number
   pub found : IfSome old (IsFoundBy files)
-  pub takes : Takes number action files old_records new_records old new
+  pub takes : Takes options number action files old_records new_records old new
 
 -- a step as it is recorded once it is undone
 abbrev pub as_undone : StagingStep → StagingStep

@@ -2,12 +2,16 @@
 
 ghost use Rattle.std.specs.Prelude.{◌≡◌, IfErr, IfOk, OnOk, false, true};
 ghost use Rattle.stage_commands.specs.Actions.{IsStaged, IsStagedOrLeft, IsUnchanged};
+ghost use Rattle.stage_commands.specs.Planned.{IsPlanned};
 ghost use Rattle.stage_commands.specs.Taken.{LeftBy};
+ghost use Rattle.stage_servers.specs.Whole as specs;
+ghost use Rattle.stage_servers.specs.Whole.{IsSeenWhole};
 
 use crate::app_halts::halt;
 use crate::backs::go_back;
 use crate::puts::put;
 use crate::raises::raise;
+use crate::release_halts::halt_release;
 use crate::resumes::resume;
 use bounded_files::Disk;
 use stage_folder::StageFolder;
@@ -33,8 +37,10 @@ where
     R: Files + AllocGlobal + Clock + Net<Stream = TcpStream>,
     D: Disk,
     F: StageFolder,
+    ensures planned { OnOk result (IsPlanned (D.known call.now.disk.now) call.now.manifest.now
+        call.now.options.now (F.records folder.old) (F.files folder.old) action.now) }
     ensures done { OnOk result (call.now.options.now.dry_run ≡ false
-        → IsStaged (D.known call.now.disk.now) call.now.manifest.now call.now.options.now.anyway
+        → IsStaged (D.known call.now.disk.now) call.now.manifest.now call.now.options.now
         action.now (F.records folder.old) (F.records folder.new) (F.files folder.old)
         (F.files folder.new)) }
     ensures stopped { IfErr result (λ stop. LeftBy stop (F.records folder.old)
@@ -44,6 +50,9 @@ where
 {
     match *action {
         StageAction::Halt { appid } => halt(call, folder, appid, lines),
+        StageAction::HaltRelease { appid, version } => {
+            halt_release(call, folder, appid, version, lines)
+        }
         StageAction::Raise { appid, buckets } => raise(call, folder, appid, buckets, lines),
         StageAction::Back => go_back(call, folder, lines),
         StageAction::Put { manifest } => put(call, folder, manifest, lines),
@@ -100,8 +109,10 @@ where
     R: Files + AllocGlobal + Clock + Net<Stream = TcpStream>,
     D: Disk,
     F: StageFolder,
+    ensures planned { OnOk result (IsPlanned (D.known call.now.disk.now) call.now.manifest.now
+        call.now.options.now (F.records folder.old) (F.files folder.old) action.now) }
     ensures done { OnOk result (call.now.options.now.dry_run ≡ false
-        → IsStaged (D.known call.now.disk.now) call.now.manifest.now call.now.options.now.anyway
+        → IsStaged (D.known call.now.disk.now) call.now.manifest.now call.now.options.now
         action.now (F.records folder.old) (F.records folder.new) (F.files folder.old)
         (F.files folder.new)) }
     ensures stopped { IfErr result (λ stop. LeftBy stop (F.records folder.old)
@@ -129,9 +140,51 @@ where
     }
 }
 
+// Whether an action changes nothing.
+fn only_looks(action: &StageAction<'_>) -> bool
+    ensures { result ≡ specs.only_looks action.now }
+{
+    match *action {
+        StageAction::Status => true,
+        StageAction::History { .. } => true,
+        StageAction::Halt { .. } => false,
+        StageAction::HaltRelease { .. } => false,
+        StageAction::Raise { .. } => false,
+        StageAction::Back => false,
+        StageAction::Put { .. } => false,
+        StageAction::Resume { .. } => false,
+    }
+}
+
+// Prints the status or the history. Returns whether nothing is amiss.
+fn look<R, D, F>(
+    call: &StageCall<'_, R, D>,
+    folder: &F,
+    action: &StageAction<'_>,
+    lines: &mut Lines,
+) -> Result<bool, Stop>
+where
+    R: Files + AllocGlobal + Clock + Net<Stream = TcpStream>,
+    D: Disk,
+    F: StageFolder,
+    ensures { IfOk result (λ is_done. is_done ≡ true → IsSeenWhole action.now
+        (F.records folder.now) (F.files folder.now)) }
+{
+    match *action {
+        StageAction::Status => push_status(call, folder, lines),
+        StageAction::History { appid } => push_history(call, folder, appid, lines),
+        StageAction::Halt { .. } => Ok(true),
+        StageAction::HaltRelease { .. } => Ok(true),
+        StageAction::Raise { .. } => Ok(true),
+        StageAction::Back => Ok(true),
+        StageAction::Put { .. } => Ok(true),
+        StageAction::Resume { .. } => Ok(true),
+    }
+}
+
 // Prints the status or the history; or changes the files, and has the servers load the manifest.
 // Returns whether all is done.
-#[tactic(auto, using(crate::proofs::Left::unchanged_by))]
+#[tactic(auto, using(crate::proofs::Left::unchanged_by, crate::proofs::Seen::unseen))]
 fn act<R, D, F>(
     call: &StageCall<'_, R, D>,
     folder: &mut F,
@@ -142,23 +195,21 @@ where
     R: Files + AllocGlobal + Clock + Net<Stream = TcpStream>,
     D: Disk,
     F: StageFolder,
+    ensures planned { OnOk result (IsPlanned (D.known call.now.disk.now) call.now.manifest.now
+        call.now.options.now (F.records folder.old) (F.files folder.old) action.now) }
     ensures done { OnOk result (call.now.options.now.dry_run ≡ false
-        → IsStaged (D.known call.now.disk.now) call.now.manifest.now call.now.options.now.anyway
+        → IsStaged (D.known call.now.disk.now) call.now.manifest.now call.now.options.now
         action.now (F.records folder.old) (F.records folder.new) (F.files folder.old)
         (F.files folder.new)) }
+    ensures seen { IfOk result (λ is_done. is_done ≡ true → IsSeenWhole action.now
+        (F.records folder.old) (F.files folder.old)) }
     ensures stopped { IfErr result (λ stop. LeftBy stop (F.records folder.old)
         (F.records folder.new) (F.files folder.old) (F.files folder.new)) }
     ensures unchanged { call.now.options.now.dry_run ≡ true → IsUnchanged (F.records folder.old)
         (F.records folder.new) (F.files folder.old) (F.files folder.new) }
 {
-    if let StageAction::Status = action {
-        return match push_status(call, folder, lines) {
-            Ok(is_served) => Ok(is_served),
-            Err(stop) => Err(stop),
-        };
-    }
-    if let StageAction::History { appid } = action {
-        return match push_history(call, &*folder, *appid, lines) {
+    if only_looks(action) {
+        return match look(call, &*folder, action, lines) {
             Ok(is_whole) => Ok(is_whole),
             Err(stop) => Err(stop),
         };
@@ -184,11 +235,16 @@ where
     R: Files + AllocGlobal + Clock + Net<Stream = TcpStream>,
     D: Disk,
     F: StageFolder,
+    ensures planned { IfOk result (λ outcome. outcome.is_done ≡ true → IsPlanned
+        (D.known disk.now) manifest.now options.now (F.records folder.old) (F.files folder.old)
+        action.now) }
     ensures done { IfOk result (λ outcome. outcome.is_done ≡ true → options.now.dry_run ≡ false
-        → IsStaged (D.known disk.now) manifest.now options.now.anyway action.now
+        → IsStaged (D.known disk.now) manifest.now options.now action.now
         (F.records folder.old) (F.records folder.new) (F.files folder.old) (F.files folder.new)) }
+    ensures seen { IfOk result (λ outcome. outcome.is_done ≡ true → IsSeenWhole action.now
+        (F.records folder.old) (F.files folder.old)) }
     ensures left { options.now.dry_run ≡ false → IsStagedOrLeft (D.known disk.now) manifest.now
-        options.now.anyway action.now (F.records folder.old) (F.records folder.new)
+        options.now action.now (F.records folder.old) (F.records folder.new)
         (F.files folder.old) (F.files folder.new) }
     ensures unchanged { options.now.dry_run ≡ true → IsUnchanged (F.records folder.old)
         (F.records folder.new) (F.files folder.old) (F.files folder.new) }
@@ -224,11 +280,16 @@ where
     R: Files + AllocGlobal + Clock + Net<Stream = TcpStream>,
     D: Disk,
     F: StageFolder,
+    ensures planned { IfOk result (λ outcome. outcome.is_done ≡ true → IsPlanned
+        (D.known disk.now) manifest.now options.now (F.records folder.old) (F.files folder.old)
+        action.now) }
     ensures done { IfOk result (λ outcome. outcome.is_done ≡ true → options.now.dry_run ≡ false
-        → IsStaged (D.known disk.now) manifest.now options.now.anyway action.now
+        → IsStaged (D.known disk.now) manifest.now options.now action.now
         (F.records folder.old) (F.records folder.new) (F.files folder.old) (F.files folder.new)) }
+    ensures seen { IfOk result (λ outcome. outcome.is_done ≡ true → IsSeenWhole action.now
+        (F.records folder.old) (F.files folder.old)) }
     ensures left { options.now.dry_run ≡ false → IsStagedOrLeft (D.known disk.now) manifest.now
-        options.now.anyway action.now (F.records folder.old) (F.records folder.new)
+        options.now action.now (F.records folder.old) (F.records folder.new)
         (F.files folder.old) (F.files folder.new) }
     ensures unchanged { options.now.dry_run ≡ true → IsUnchanged (F.records folder.old)
         (F.records folder.new) (F.files folder.old) (F.files folder.new) }

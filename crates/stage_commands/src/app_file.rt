@@ -1,7 +1,10 @@
 //! The app whose file is to be replaced, and what replaces that.
 
-ghost use Rattle.std.specs.Prelude.{◌≡◌, IfOk, Some, option_map, option_to_list, true};
+ghost use Rattle.std.specs.Prelude.{◌≡◌, IfOk, None, Some, false, not, option_copied, option_map};
+ghost use Rattle.std.specs.Prelude.{option_to_list, true};
+ghost use Rattle.std.specs.Str.{bytes_eq};
 ghost use Rattle.stage_commands.specs.Apps as specs;
+ghost use Rattle.stage_servers.specs.Apps.{app_named};
 ghost use Rattle.stage_folder.specs.Folders.{GivesFile, KnownFolder};
 
 use crate::stop_texts::{no_app, one_file};
@@ -26,14 +29,11 @@ where
     }
 }
 
-// Whether two names of a manifest are those of one file.
+// Whether two names of a manifest lead to one file.
 fn is_one_file<R>(rt: &R, manifest: &str, one: &str, other: &str) -> Result<bool, AllocError>
 where
     R: Files + AllocGlobal,
 {
-    if one == other {
-        return Ok(true);
-    }
     let Some(found) = file_identity(rt, manifest, one)? else {
         return Ok(false);
     };
@@ -43,22 +43,59 @@ where
     }
 }
 
+fn is_other(app: &AppSources, other: &AppSources) -> bool
+    ensures { result ≡ not (bytes_eq other.now.entry.appid app.now.entry.appid) }
+{
+    other.entry.appid() != app.entry.appid()
+}
+
+// Whether another app names the file of an app.
+fn names_file_of(app: &AppSources, other: &AppSources) -> bool
+    ensures { result ≡ specs.names_file_of app.now other.now }
+{
+    is_other(app, other) && other.entry.source().file() == app.entry.source().file()
+}
+
+// Whether another app has the file of an app, by the same name or by one that leads to it.
+fn has_file_of<R>(
+    rt: &R,
+    manifest: &str,
+    app: &AppSources,
+    other: &AppSources,
+) -> Result<bool, AllocError>
+where
+    R: Files + AllocGlobal,
+    ensures { IfOk result (λ has. has ≡ false → specs.names_file_of app.now other.now ≡ false) }
+{
+    if names_file_of(app, other) {
+        return Ok(true);
+    }
+    if !is_other(app, other) {
+        return Ok(false);
+    }
+    let (one, too) = (app.entry.source().file(), other.entry.source().file());
+    let is_one = is_one_file(rt, manifest, one, too)?;
+    Ok(is_one)
+}
+
 // Another app of the manifest with the same file.
 fn app_with_file<'a, R>(
     rt: &R,
     manifest: &str,
     apps: &'a [AppSources],
     app: &AppSources,
-) -> Result<Option<&'a str>, AllocError>
+) -> Result<Option<&'a AppSources>, AllocError>
 where
     R: Files + AllocGlobal,
+    ensures { IfOk result (λ other. option_copied other ≡ None
+        → specs.shares_file apps.now app.now ≡ false) }
 {
-    let file = app.entry.source().file();
-    for other in apps {
-        let is_other = other.entry.appid() != app.entry.appid();
-        if is_other && is_one_file(rt, manifest, file, other.entry.source().file())? {
-            return Ok(Some(other.entry.appid()));
+    let mut left = apps;
+    while let [other, others @ ..] = left {
+        if has_file_of(rt, manifest, app, other)? {
+            return Ok(Some(other));
         }
+        left = others;
     }
     Ok(None)
 }
@@ -73,7 +110,9 @@ pub(crate) fn app_to_change<'a, R, D>(
 ) -> Result<&'a AppSources, Stop>
 where
     R: Files + AllocGlobal,
-    ensures { IfOk result (λ app. specs.app_named apps.now appid.now ≡ Some app.now) }
+    ensures found { IfOk result (λ app. app_named apps.now appid.now ≡ Some app.now) }
+    ensures alone { IfOk result (λ app. call.now.options.now.anyway ≡ false
+        → specs.shares_file apps.now app.now ≡ false) }
 {
     let alloc = call.rt.alloc();
     let Some(app) = app_named(apps, appid) else {
@@ -85,7 +124,7 @@ where
     let Some(other) = found else {
         return Ok(app);
     };
-    let refusal = one_file(alloc, app.entry.source().file(), other);
+    let refusal = one_file(alloc, app.entry.source().file(), other.entry.appid());
     match lines.go_on_if(call.options.anyway, refusal) {
         Ok(()) => Ok(app),
         Err(stop) => Err(stop),

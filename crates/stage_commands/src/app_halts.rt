@@ -4,6 +4,7 @@ ghost use Rattle.std.specs.Prelude.{◌≡◌, IfErr, IfOk, OnOk, false, true};
 ghost use Rattle.bounded_files.specs.Files.{KnownFiles};
 ghost use Rattle.load.specs.Opened.{IsCollected};
 ghost use Rattle.stage_commands.specs.Actions.{IsUnchanged};
+ghost use Rattle.stage_commands.specs.Planned.{IsHaltPlanned};
 ghost use Rattle.stage_commands.specs.Stages.{HasHalted, PlansHalt, PlansHaltOf};
 ghost use Rattle.stage_commands.specs.Taken.{LeftBy};
 
@@ -52,7 +53,8 @@ where
     F: StageFolder,
     ensures { IfOk result (λ file. (known : KnownFiles)
         → IsCollected known call.now.manifest.now collected.now
-        → PlansHalt known call.now.manifest.now appid.now (F.files folder.now) file) }
+        → PlansHalt known call.now.manifest.now appid.now call.now.options.now
+        (F.files folder.now) file) }
 {
     let app = app_to_change(call, &collected.sources.apps, appid, lines)?;
     let file = halting_file_of(call.rt.alloc(), folder, app)?;
@@ -71,7 +73,7 @@ where
     D: Disk,
     F: StageFolder,
     ensures { IfOk result (PlansHalt (D.known call.now.disk.now) call.now.manifest.now appid.now
-        (F.files folder.now)) }
+        call.now.options.now (F.files folder.now)) }
 {
     let collected = match collected_at(call.rt.alloc(), call.disk, call.manifest) {
         Ok(collected) => collected,
@@ -94,10 +96,12 @@ where
     R: Files + AllocGlobal + Clock,
     D: Disk,
     F: StageFolder,
+    ensures planned { OnOk result (IsHaltPlanned (D.known call.now.disk.now) call.now.manifest.now
+        call.now.options.now (F.records folder.old) (F.files folder.old) appid.now) }
     ensures done { OnOk result (call.now.options.now.dry_run ≡ false
         → HasHalted (D.known call.now.disk.now) call.now.manifest.now appid.now
-        (F.records folder.old) (F.records folder.new) (F.files folder.old)
-        (F.files folder.new)) }
+        call.now.options.now (F.records folder.old) (F.records folder.new)
+        (F.files folder.old) (F.files folder.new)) }
     ensures stopped { IfErr result (λ stop. LeftBy stop (F.records folder.old)
         (F.records folder.new) (F.files folder.old) (F.files folder.new)) }
     ensures unchanged { call.now.options.now.dry_run ≡ true → IsUnchanged (F.records folder.old)

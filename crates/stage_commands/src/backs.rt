@@ -1,10 +1,10 @@
 //! `stage back`: the last step that isn't undone is undone.
 
-ghost use Rattle.std.specs.Prelude.{◌≡◌, IfErr, IfOk, IfSome, OnErr, OnOk, Some, None, false};
+ghost use Rattle.std.specs.Prelude.{◌≡◌, IfErr, IfSome, OnErr, OnOk, Some, None, false};
 ghost use Rattle.std.specs.Prelude.{option_map};
 ghost use Rattle.std.specs.Prelude.{true};
 ghost use Rattle.stage_commands.specs.Actions.{IsUnchanged};
-ghost use Rattle.stage_commands.specs.Backs.{HasGoneBack, UndoingLiftsNone, Undoes};
+ghost use Rattle.stage_commands.specs.Backs.{HasGoneBack, PlansBack, UndoingLiftsNone, Undoes};
 ghost use Rattle.stage_commands.specs.Taken.{LeftBy, LeftByUndo, MayChange, as_undone};
 ghost use Rattle.stage_folder.specs.Recorded.{IsRecorded, MayBeRecorded};
 ghost use Rattle.stage_folder.specs.Steps.{edited_place, undone};
@@ -14,9 +14,9 @@ use crate::restored::compare_restored;
 use crate::steps::{name_at, read_steps};
 use crate::stop_texts::{EDITED, NOTHING_TO_UNDO, not_noted, not_undone};
 use bounded_files::Disk;
-use stage_folder::{StageFolder, StepFault, UndoFault, undo, write_record};
+use stage_folder::{StageFolder, StepFault, UndoFault, edited_file, undo, write_record};
 use stage_records::{StagingStep, last_step};
-use stage_servers::{Lines, StageCall, Stop, push_step, refusal_of, refused};
+use stage_servers::{Lines, StageCall, Stop, in_folder, push_step, refusal_of, refused};
 use std::alloc::Global;
 use std::net::{Net, TcpStream};
 use std::time::Clock;
@@ -87,6 +87,8 @@ fn undo_step<F: StageFolder>(
     folder: &mut F,
     step: &mut StagingStep,
 ) -> Result<(), Stop>
+    ensures unedited { OnOk result (IfSome (F.files folder.old)
+        (λ known. edited_place step.old.files known ≡ None)) }
     ensures done { OnOk result (Undoes step.old (F.records folder.old) (F.records folder.new)
         (F.files folder.old) (F.files folder.new)) }
     ensures stopped { IfErr result (λ stop. LeftByUndo stop step.old (F.records folder.old)
@@ -101,7 +103,27 @@ fn undo_step<F: StageFolder>(
     }
 }
 
-// The same; for `--dry-run` it only prints the step.
+// Prints a step that would be undone. A file that was edited since is a refusal.
+fn print_undo<F: StageFolder>(
+    alloc: Global,
+    folder: &F,
+    step: &StagingStep,
+    lines: &mut Lines,
+) -> Result<(), Stop>
+    ensures { OnOk result (IfSome (F.files folder.now)
+        (λ known. edited_place step.now.files known ≡ None)) }
+{
+    match edited_file(folder, &step.files) {
+        Ok(None) => {
+            push_step(alloc, &mut lines.text, "would undo", step);
+            Ok(())
+        }
+        Ok(Some(file)) => Err(refusal_of(alloc, name_at(&step.files, file), EDITED)),
+        Err(StepFault { file, fault }) => Err(in_folder(alloc, name_at(&step.files, file), fault)),
+    }
+}
+
+// The same; for `--dry-run` it only prints the step, unless that couldn't be undone.
 #[tactic(auto, using(crate::proofs::Left::unchanged_undo))]
 fn undo_unless_dry<F: StageFolder>(
     alloc: Global,
@@ -110,6 +132,8 @@ fn undo_unless_dry<F: StageFolder>(
     dry_run: bool,
     lines: &mut Lines,
 ) -> Result<(), Stop>
+    ensures unedited { OnOk result (IfSome (F.files folder.old)
+        (λ known. edited_place step.old.files known ≡ None)) }
     ensures done { OnOk result (dry_run ≡ false → Undoes step.old (F.records folder.old)
         (F.records folder.new) (F.files folder.old) (F.files folder.new)) }
     ensures stopped { IfErr result (λ stop. LeftByUndo stop step.old (F.records folder.old)
@@ -118,8 +142,10 @@ fn undo_unless_dry<F: StageFolder>(
         (F.records folder.new) (F.files folder.old) (F.files folder.new) }
 {
     if dry_run {
-        push_step(alloc, &mut lines.text, "would undo", &*step);
-        return Ok(());
+        return match print_undo(alloc, &*folder, &*step, lines) {
+            Ok(()) => Ok(()),
+            Err(stop) => Err(stop),
+        };
     }
     if !lines.are_complete() {
         return Err(Stop::Memory);
@@ -164,6 +190,8 @@ where
     R: AllocGlobal + Clock + Net<Stream = TcpStream>,
     D: Disk,
     F: StageFolder,
+    ensures planned { OnOk result (PlansBack (D.known call.now.disk.now) call.now.manifest.now
+        call.now.options.now.anyway (F.records folder.old) (F.files folder.old)) }
     ensures done { OnOk result (call.now.options.now.dry_run ≡ false → HasGoneBack
         (D.known call.now.disk.now) call.now.manifest.now call.now.options.now.anyway
         (F.records folder.old) (F.records folder.new) (F.files folder.old)

@@ -3,6 +3,7 @@
 
 ghost use Rattle.std.specs.Prelude.{◌≡◌, IfErr, IfOk, codes};
 ghost use Rattle.stage_commands.specs.Befores as specs;
+ghost use Rattle.stage_servers.specs.Replaced.{file_named};
 ghost use Rattle.stage_commands.specs.Befores.{GivesBefore, IsGathered, RefusesBefore};
 ghost use Rattle.stage_commands.specs.Befores.{WasCollected, WasGathered};
 
@@ -37,9 +38,9 @@ fn bytes_before<D: Disk>(
     restored: &[ReplacedFile],
 ) -> Result<Vec<u8>, PathFault>
     ensures given { IfOk result (λ bytes. GivesBefore (D.known disk.now) manifest.now
-        (specs.file_named restored.now (codes "current.toml")) bytes.items) }
+        (file_named restored.now (codes "current.toml")) bytes.items) }
     ensures fault { IfErr result (λ fault. RefusesBefore (D.known disk.now) manifest.now fault
-        (specs.file_named restored.now (codes "current.toml"))) }
+        (file_named restored.now (codes "current.toml"))) }
 {
     match file_named(restored, CURRENT) {
         Some(file) => match bytes_of(alloc, file, false) {
@@ -64,7 +65,7 @@ fn collect_before<D: Disk>(
     ensures collected { IfOk result
         (WasCollected (D.known disk.now) manifest.now restored.now) }
     ensures fault { IfErr result (λ fault. RefusesBefore (D.known disk.now) manifest.now fault
-        (specs.file_named restored.now (codes "current.toml"))) }
+        (file_named restored.now (codes "current.toml"))) }
 {
     let bytes = match bytes_before(alloc, disk, manifest, restored) {
         Ok(bytes) => bytes,

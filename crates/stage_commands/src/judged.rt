@@ -1,6 +1,7 @@
 //! Manifests, judged without a server.
 
 ghost use Rattle.std.specs.Prelude.{IfOk};
+ghost use Rattle.load.specs.JudgedApps.{IsJudgedOf};
 ghost use Rattle.stage_commands.specs.Compared.{AreAllJudged};
 
 use load::{JudgedManifest, LoadFault, PathFault, Sources, judge_sources};
@@ -13,7 +14,8 @@ pub(crate) fn judged(
     bytes: &[u8],
     sources: Sources,
 ) -> Result<JudgedManifest, LoadFault>
-    ensures { IfOk result AreAllJudged }
+    ensures apps { IfOk result AreAllJudged }
+    ensures judged { IfOk result (IsJudgedOf bytes.now sources) }
 {
     match judge_sources(alloc, bytes, sources) {
         Ok(judged) => Ok(judged),
@@ -28,7 +30,8 @@ pub(crate) fn judged_at(
     bytes: &[u8],
     sources: Sources,
 ) -> Result<JudgedManifest, Stop>
-    ensures { IfOk result AreAllJudged }
+    ensures apps { IfOk result AreAllJudged }
+    ensures judged { IfOk result (IsJudgedOf bytes.now sources) }
 {
     match judged(alloc, bytes, sources) {
         Ok(judged) => Ok(judged),

@@ -34,6 +34,7 @@ mod next_rows;
 mod put_files;
 mod puts;
 mod raises;
+mod release_halts;
 mod restored;
 mod resumed_file;
 mod resumes;

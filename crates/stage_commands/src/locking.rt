@@ -21,7 +21,7 @@ const LOCK_MILLIS: u64 = 100;
 fn tries_of(action: &StageAction<'_>) -> u32 {
     match *action {
         StageAction::Status | StageAction::History { .. } => 0,
-        StageAction::Halt { .. } => LOCK_TRIES,
+        StageAction::Halt { .. } | StageAction::HaltRelease { .. } => LOCK_TRIES,
         _ => 1,
     }
 }
@@ -84,6 +84,10 @@ fn holder_of<F: StageFolder>(alloc: Global, folder: &F) -> Result<String, AllocE
 fn push_words(text: &mut TextBuffer, action: &StageAction<'_>) {
     match *action {
         StageAction::Halt { appid } => text.push_printed("halt ", appid, ""),
+        StageAction::HaltRelease { appid, version } => {
+            text.push_printed("halt ", appid, "");
+            text.push_printed(" ", version, "");
+        }
         StageAction::Raise { appid, .. } => text.push_printed("raise ", appid, ""),
         StageAction::Resume { appid, .. } => text.push_printed("resume ", appid, ""),
         StageAction::Back => text.push("back"),

@@ -3,6 +3,7 @@
 ghost use Rattle.std.specs.Prelude.{◌≡◌, IfErr, IfOk, None, OnOk, false, option_copied, option_map};
 ghost use Rattle.std.specs.Prelude.{true};
 ghost use Rattle.stage_commands.specs.Actions.{IsUnchanged};
+ghost use Rattle.stage_commands.specs.Planned.{IsPutPlanned};
 ghost use Rattle.stage_commands.specs.Compared.{AreAllJudged};
 ghost use Rattle.stage_commands.specs.PutPlans.{IsLiftedBy, IsPresent, IsPutPlan, IsUnrefused};
 ghost use Rattle.stage_commands.specs.Puts.{HasPut, PlansPut};
@@ -20,7 +21,8 @@ use load::{AppSources, CollectedManifest, JudgedManifest};
 use stage_folder::{StageFolder, steps_leave};
 use stage_records::{ReplacedFile, StagingStep, StepAction};
 use stage_servers::{Lines, StageCall, Stop, collected_at};
-use staging::lifted_halt;
+use staging::lifted_app;
+use std::alloc::{AllocError, Global};
 use std::net::{Net, TcpStream};
 use std::time::Clock;
 
@@ -77,16 +79,18 @@ where
 
 // The app of a halt in force that the next manifest lifts, by the manifest in place.
 fn lifted_by<'a>(
+    alloc: Global,
     steps: &'a [StagingStep],
     present: &Present,
     next: &[AppSources],
-) -> Option<&'a str>
-    ensures { IsLiftedBy steps.now present.now next.now (option_copied result) }
+) -> Result<Option<&'a str>, AllocError>
+    ensures { IfOk result (λ lifted.
+        IsLiftedBy steps.now present.now next.now (option_copied lifted)) }
 {
     match present {
-        Present::Nothing => lifted_halt(steps, &[], next),
-        Present::Manifest(present) => lifted_halt(steps, &present.sources.apps, next),
-        Present::Refused(_) => None,
+        Present::Nothing => lifted_app(alloc, steps, &[], next),
+        Present::Manifest(present) => lifted_app(alloc, steps, &present.sources.apps, next),
+        Present::Refused(_) => Ok(None),
     }
 }
 
@@ -163,10 +167,11 @@ where
     let next = collected_at(alloc, call.disk, manifest)?;
     let files = files_to_put(alloc, folder, &next.bytes, &next.sources.apps);
     let present = present_manifest(call, folder);
-    let lifted = lifted_by(steps, &present, &next.sources.apps);
+    let lifted = lifted_by(alloc, steps, &present, &next.sources.apps);
     let CollectedManifest { bytes, sources } = next;
     let next = judged_at(alloc, manifest, &bytes, sources)?;
     let files = files?;
+    let lifted = lifted?;
     stop_if_lifted(alloc, lifted, call.options.anyway, lines)?;
     compare_next(call, present, next, lines)?;
     Ok(files)
@@ -218,9 +223,11 @@ where
     R: AllocGlobal + Clock + Net<Stream = TcpStream>,
     D: Disk,
     F: StageFolder,
+    ensures planned { OnOk result (IsPutPlanned (D.known call.now.disk.now) call.now.manifest.now
+        call.now.options.now (F.records folder.old) (F.files folder.old) manifest.now) }
     ensures done { OnOk result (call.now.options.now.dry_run ≡ false
         → HasPut (D.known call.now.disk.now) call.now.manifest.now manifest.now
-        call.now.options.now.anyway (F.records folder.old) (F.records folder.new)
+        call.now.options.now (F.records folder.old) (F.records folder.new)
         (F.files folder.old) (F.files folder.new)) }
     ensures stopped { IfErr result (λ stop. LeftBy stop (F.records folder.old)
         (F.records folder.new) (F.files folder.old) (F.files folder.new)) }

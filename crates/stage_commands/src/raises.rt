@@ -6,6 +6,7 @@ ghost use Rattle.load.specs.Opened.{IsCollected};
 ghost use Rattle.manifest.specs.App.{file_of};
 ghost use Rattle.staging.specs.Raises.{IsRaised};
 ghost use Rattle.stage_commands.specs.Actions.{IsUnchanged};
+ghost use Rattle.stage_commands.specs.Planned.{IsRaisePlanned};
 ghost use Rattle.stage_commands.specs.Stages.{HasRaised, PlansRaise, PlansRaiseOf};
 ghost use Rattle.stage_commands.specs.Taken.{LeftBy};
 ghost use Rattle.stage_folder.specs.Folders.{GivesFile};
@@ -51,8 +52,12 @@ pub(crate) fn raised_text(
     }
 }
 
-// The bytes of the app's rule in the folder.
-fn rule_bytes<F: StageFolder>(alloc: Global, folder: &F, app: &AppSources) -> Result<Vec<u8>, Stop>
+/// The bytes of the app's rule in the folder.
+pub(crate) fn rule_bytes<F: StageFolder>(
+    alloc: Global,
+    folder: &F,
+    app: &AppSources,
+) -> Result<Vec<u8>, Stop>
     ensures { IfOk result (λ bytes.
         GivesFile (F.files folder.now) (file_of app.now.entry.source) (Some bytes.items)) }
 {
@@ -104,7 +109,8 @@ where
     F: StageFolder,
     ensures { IfOk result (λ file. (known : KnownFiles)
         → IsCollected known call.now.manifest.now collected.now
-        → PlansRaise known call.now.manifest.now appid.now buckets (F.files folder.now) file) }
+        → PlansRaise known call.now.manifest.now appid.now buckets call.now.options.now
+        (F.files folder.now) file) }
 {
     let app = app_to_change(call, &collected.sources.apps, appid, lines)?;
     let file = raised_file_of(call.rt.alloc(), folder, app, buckets)?;
@@ -124,7 +130,7 @@ where
     D: Disk,
     F: StageFolder,
     ensures { IfOk result (PlansRaise (D.known call.now.disk.now) call.now.manifest.now appid.now
-        buckets (F.files folder.now)) }
+        buckets call.now.options.now (F.files folder.now)) }
 {
     let collected = match collected_at(call.rt.alloc(), call.disk, call.manifest) {
         Ok(collected) => collected,
@@ -160,10 +166,12 @@ where
     R: Files + AllocGlobal + Clock + Net<Stream = TcpStream>,
     D: Disk,
     F: StageFolder,
+    ensures planned { OnOk result (IsRaisePlanned (D.known call.now.disk.now) call.now.manifest.now
+        call.now.options.now (F.records folder.old) (F.files folder.old) appid.now buckets) }
     ensures done { OnOk result (call.now.options.now.dry_run ≡ false
         → HasRaised (D.known call.now.disk.now) call.now.manifest.now appid.now buckets
-        (F.records folder.old) (F.records folder.new) (F.files folder.old)
-        (F.files folder.new)) }
+        call.now.options.now (F.records folder.old) (F.records folder.new)
+        (F.files folder.old) (F.files folder.new)) }
     ensures stopped { IfErr result (λ stop. LeftBy stop (F.records folder.old)
         (F.records folder.new) (F.files folder.old) (F.files folder.new)) }
     ensures unchanged { call.now.options.now.dry_run ≡ true → IsUnchanged (F.records folder.old)

@@ -1,10 +1,9 @@
 //! What changes if a step is undone: the manifest in place, compared with the one before the step;
 //! and which halt that lifts.
 
-ghost use Rattle.std.specs.Prelude.{◌≡◌, IfSome, OnOk, false, option_copied};
-ghost use Rattle.stage_commands.specs.Backs.{UndoingLiftsNone, lifted_by_undoing};
+ghost use Rattle.std.specs.Prelude.{◌≡◌, IfOk, IfSome, None, OnOk, false, option_copied};
+ghost use Rattle.stage_commands.specs.Backs.{LiftsNoneByUndoing, UndoingLiftsNone};
 ghost use Rattle.stage_commands.specs.Compared.{AreAllJudged};
-ghost use Rattle.staging.specs.InForce as in_force;
 
 use crate::comparison::compare;
 use crate::gathered::{collected_before, collected_now};
@@ -12,10 +11,10 @@ use crate::judged::judged;
 use crate::lifting::stop_if_lifted;
 use bounded_files::Disk;
 use load::{CollectedManifest, JudgedManifest};
-use stage_records::{StagingStep, StepAction};
+use stage_records::StagingStep;
 use stage_servers::{Lines, StageCall, Stop};
-use staging::lifted_halt;
-use std::alloc::Global;
+use staging::{app_of_any_halt, lifted_app};
+use std::alloc::{AllocError, Global};
 use std::net::{Net, TcpStream};
 use std::time::Clock;
 
@@ -25,32 +24,23 @@ pub(crate) const NOT_COMPARED: &str =
 
 // ---- halts
 
-// The app that a step halts.
-fn app_of_halt(action: &StepAction) -> Option<&str>
-    ensures { option_copied result ≡ in_force.app_of_halt action.now }
-{
-    match action {
-        StepAction::Halt { appid } => Some(appid.as_str()),
-        StepAction::Raise { .. } | StepAction::Resume { .. } | StepAction::Put { .. } => None,
-    }
-}
-
 // The app of a halt in force that undoing a step lifts. If a manifest can't be gathered, so that
 // this isn't known, a halt is taken to be lifted.
 fn lifted_by_undoing<'a>(
+    alloc: Global,
     steps: &'a [StagingStep],
     step: &'a StagingStep,
     present: &Option<CollectedManifest>,
     before: &Option<CollectedManifest>,
-) -> Option<&'a str>
-    ensures { option_copied result
-        ≡ lifted_by_undoing steps.now step.now present.now before.now }
+) -> Result<Option<&'a str>, AllocError>
+    ensures { IfOk result (λ lifted. option_copied lifted ≡ None
+        → LiftsNoneByUndoing steps.now step.now present.now before.now) }
 {
     match (present, before) {
         (Some(present), Some(before)) => {
-            lifted_halt(steps, &present.sources.apps, &before.sources.apps)
+            lifted_app(alloc, steps, &present.sources.apps, &before.sources.apps)
         }
-        _ => app_of_halt(&step.action),
+        _ => Ok(app_of_any_halt(&step.action)),
     }
 }
 
@@ -125,7 +115,11 @@ where
             return Err(stop);
         }
     };
-    let lifted = lifted_by_undoing(steps, step, &present, &before);
+    let Ok(lifted) = lifted_by_undoing(alloc, steps, step, &present, &before) else {
+        drop(present);
+        drop(before);
+        return Err(Stop::Memory);
+    };
     match stop_if_lifted(alloc, lifted, call.options.anyway, lines) {
         Ok(()) => {
             compare_if(call, present, before, lines)?;

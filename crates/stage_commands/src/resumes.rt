@@ -5,6 +5,7 @@ ghost use Rattle.std.specs.Prelude.{◌≡◌, IfErr, IfOk, OnOk, false, true};
 ghost use Rattle.bounded_files.specs.Files.{KnownFiles};
 ghost use Rattle.load.specs.Opened.{IsCollected};
 ghost use Rattle.stage_commands.specs.Actions.{IsUnchanged};
+ghost use Rattle.stage_commands.specs.Planned.{IsResumePlanned};
 ghost use Rattle.stage_commands.specs.Resumes.{HasResumed, PlansResume};
 ghost use Rattle.stage_commands.specs.Taken.{LeftBy};
 ghost use Rattle.staging.specs.InForce as in_force;
@@ -24,14 +25,14 @@ use manifest_diff::OpenedBoth;
 use stage_folder::StageFolder;
 use stage_records::{ReplacedFile, StagingStep, StepAction};
 use stage_servers::{Lines, StageCall, Stop, collected_at, file_named, refusal_of, replaced_file};
-use staging::{is_in_force, last_halt};
+use staging::{is_resumable, last_halt};
 use std::alloc::{AllocError, Global};
 use std::net::{Net, TcpStream};
 use std::rt::Files;
 use std::slice;
 use std::time::Clock;
 
-// Refuses an app of which no recorded halt is in force.
+// Refuses an app of which no recorded halt is in force, and no release is halted last.
 fn stop_unless_halted(
     alloc: Global,
     steps: &[StagingStep],
@@ -39,9 +40,9 @@ fn stop_unless_halted(
     appid: &str,
 ) -> Result<(), Stop>
     ensures { OnOk result
-        (in_force.is_in_force steps.now collected.now.sources.apps.items appid.now ≡ true) }
+        (in_force.is_resumable steps.now collected.now.sources.apps.items appid.now ≡ true) }
 {
-    if is_in_force(steps, &collected.sources.apps, appid) {
+    if is_resumable(steps, &collected.sources.apps, appid) {
         return Ok(());
     }
     Err(refusal_of(alloc, appid, NOT_HALTED))
@@ -62,8 +63,8 @@ where
     F: StageFolder,
     ensures { IfOk result (λ file. (known : KnownFiles)
         → IsCollected known call.now.manifest.now collected.now
-        → PlansResume known call.now.manifest.now appid.now buckets (F.files folder.now)
-        steps.now file) }
+        → PlansResume known call.now.manifest.now appid.now buckets call.now.options.now
+        (F.files folder.now) steps.now file) }
 {
     let app = app_to_change(call, &collected.sources.apps, appid, lines)?;
     stop_unless_halted(call.rt.alloc(), steps, collected, appid)?;
@@ -161,7 +162,7 @@ where
     D: Disk,
     F: StageFolder,
     ensures { IfOk result (PlansResume (D.known call.now.disk.now) call.now.manifest.now
-        appid.now buckets (F.files folder.now) steps.now) }
+        appid.now buckets call.now.options.now (F.files folder.now) steps.now) }
 {
     let collected = match collected_at(call.rt.alloc(), call.disk, call.manifest) {
         Ok(collected) => collected,
@@ -201,10 +202,12 @@ where
     R: Files + AllocGlobal + Clock + Net<Stream = TcpStream>,
     D: Disk,
     F: StageFolder,
+    ensures planned { OnOk result (IsResumePlanned (D.known call.now.disk.now) call.now.manifest.now
+        call.now.options.now (F.records folder.old) (F.files folder.old) appid.now buckets) }
     ensures done { OnOk result (call.now.options.now.dry_run ≡ false
         → HasResumed (D.known call.now.disk.now) call.now.manifest.now appid.now buckets
-        (F.records folder.old) (F.records folder.new) (F.files folder.old)
-        (F.files folder.new)) }
+        call.now.options.now (F.records folder.old) (F.records folder.new)
+        (F.files folder.old) (F.files folder.new)) }
     ensures stopped { IfErr result (λ stop. LeftBy stop (F.records folder.old)
         (F.records folder.new) (F.files folder.old) (F.files folder.new)) }
     ensures unchanged { call.now.options.now.dry_run ≡ true → IsUnchanged (F.records folder.old)

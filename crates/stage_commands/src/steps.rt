@@ -1,7 +1,7 @@
 //! The recorded steps, and the number of the next one.
 
-ghost use Rattle.std.specs.Prelude.{◌≡◌, [], IfOk, None};
-ghost use Rattle.stage_commands.specs.Taken.{AreAllRead};
+ghost use Rattle.std.specs.Prelude.{◌≡◌, [], IfOk, None, option_copied};
+ghost use Rattle.stage_servers.specs.Whole.{AreAllRead};
 ghost use Rattle.stage_folder.specs.Folders.{IsFree};
 
 use crate::stop_texts::NO_NUMBER;
@@ -19,9 +19,14 @@ pub(crate) fn owned_text(alloc: Global, text: &str) -> Result<Text, AllocError>
 }
 
 /// The same of a text that may be missing.
-pub(crate) fn owned_some(alloc: Global, text: Option<&str>) -> Result<Option<Text>, AllocError> {
+pub(crate) fn owned_some(alloc: Global, text: Option<&str>) -> Result<Option<Text>, AllocError>
+    ensures { IfOk result (λ owned. owned ≡ option_copied text.entry) }
+{
     match text {
-        Some(text) => Ok(Some(owned_text(alloc, text)?)),
+        Some(text) => {
+            let owned = owned_text(alloc, text)?;
+            Ok(Some(owned))
+        }
         None => Ok(None),
     }
 }

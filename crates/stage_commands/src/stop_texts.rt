@@ -11,7 +11,7 @@ use printing::TextBuffer;
 use rule_lang::RuleFault;
 use stage_folder::FolderFault;
 use stage_servers::{RECORDS, Stop, refusal, refusal_of};
-use staging::RaiseFault;
+use staging::{RaiseFault, WithoutFault};
 use std::alloc::Global;
 
 /// Somebody may lose a release.
@@ -38,6 +38,12 @@ pub(crate) const EDITED: &str =
 pub(crate) const TWO_CONTENTS: &str = " would get two contents: give each file of the manifest its \
     own name, and call it again";
 
+/// A statement of a rule can't be found by itself.
+const TOO_LONG: &str = " isn't changed: one of its statements is too long: edit a copy, and put it";
+
+/// The rule is the one of a halt of the whole app.
+pub(crate) const HALTS_ALL: &str = " halts the whole app already: lift that halt first";
+
 /// The rule is the one of a halt.
 pub(crate) const IS_HALTED: &str = " isn't raised: it halts the app: lift that halt first";
 
@@ -46,8 +52,8 @@ pub(crate) const NOT_HALTED: &str = " isn't halted by a step: if a server halts 
     resume there";
 
 /// What follows the name of a file: a later step replaced it, so the halt isn't its last state.
-pub(crate) const REPLACED_SINCE: &str = " was replaced again since the halt: put the rule that you \
-    want in place";
+pub(crate) const REPLACED_SINCE: &str = " was replaced again since the halt (if a step stopped \
+    there, call stage back): put the rule that you want in place";
 
 // ---- manifests
 
@@ -126,6 +132,35 @@ pub(crate) fn not_raised(alloc: Global, file: &str, fault: RaiseFault) -> Stop {
         RaiseFault::Memory => return Stop::Memory,
     };
     refusal_of(alloc, file, rest)
+}
+
+// The app has no release of a version.
+fn no_release(alloc: Global, app: &AppSources, version: &str) -> Stop {
+    let mut text = TextBuffer::new(alloc);
+    text.push_printed("", app.entry.appid(), " has no release ");
+    text.push_printed("", version, ", only ");
+    let mut mark = "";
+    for release in app.entry.releases() {
+        text.push_printed(mark, release.version(), "");
+        mark = ", ";
+    }
+    refusal(text)
+}
+
+/// The statements that offer a version can't be taken out of a rule.
+pub(crate) fn not_left_out(
+    alloc: Global,
+    app: &AppSources,
+    version: &str,
+    fault: WithoutFault,
+) -> Stop {
+    let file = app.entry.source().file();
+    match fault {
+        WithoutFault::NoRelease => no_release(alloc, app, version),
+        WithoutFault::NoRule(fault) => no_rule(alloc, file, fault),
+        WithoutFault::NotFound => refusal_of(alloc, file, TOO_LONG),
+        WithoutFault::Memory => Stop::Memory,
+    }
 }
 
 // ---- the folder and its steps

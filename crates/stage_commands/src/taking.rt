@@ -1,7 +1,7 @@
 //! Recording a step, and performing it.
 
 ghost use Rattle.std.specs.Prelude.{◌≡◌, [], IfErr, IfOk, IfSome, OnErr, OnOk, false, option_map};
-ghost use Rattle.std.specs.Prelude.{option_to_list, true};
+ghost use Rattle.std.specs.Prelude.{option_copied, option_to_list, true};
 ghost use Rattle.stage_commands.specs.Actions.{IsUnchanged};
 ghost use Rattle.stage_commands.specs.Taken.{IsNext, LeftBy, MayChange, Performs, Takes};
 ghost use Rattle.stage_folder.specs.Folders.{IsFree};
@@ -143,6 +143,10 @@ fn new_step<R: AllocGlobal + Clock, D>(
 ) -> Result<StagingStep, Stop>
     ensures number { IfOk result (λ step. step.number ≡ number) }
     ensures action { IfOk result (λ step. step.action ≡ action) }
+    ensures user { IfOk result (λ step.
+        step.user ≡ option_copied call.now.options.now.user) }
+    ensures because { IfOk result (λ step.
+        step.because ≡ option_copied call.now.options.now.because) }
     ensures files { IfOk result (λ step. step.files ≡ files.items) }
     ensures not_undone { IfOk result (λ step. step.is_undone ≡ false) }
 {
@@ -176,9 +180,9 @@ where
     F: StageFolder,
     requires free { IsFree (F.records folder.old) number }
     requires found { IfSome (F.files folder.old) (IsFoundBy files.items) }
-    ensures done { OnOk result (call.now.options.now.dry_run ≡ false → Takes number action
-        files.items (F.records folder.old) (F.records folder.new) (F.files folder.old)
-        (F.files folder.new)) }
+    ensures done { OnOk result (call.now.options.now.dry_run ≡ false → Takes
+        call.now.options.now number action files.items (F.records folder.old)
+        (F.records folder.new) (F.files folder.old) (F.files folder.new)) }
     ensures stopped { IfErr result (λ stop. LeftBy stop (F.records folder.old)
         (F.records folder.new) (F.files folder.old) (F.files folder.new)) }
     ensures unchanged { call.now.options.now.dry_run ≡ true → IsUnchanged (F.records folder.old)
@@ -211,9 +215,9 @@ where
     F: StageFolder,
     requires free { IsFree (F.records folder.old) number }
     requires found { IfSome (F.files folder.old) (IsFoundBy (option_to_list file)) }
-    ensures done { OnOk result (call.now.options.now.dry_run ≡ false → Takes number action
-        (option_to_list file) (F.records folder.old) (F.records folder.new) (F.files folder.old)
-        (F.files folder.new)) }
+    ensures done { OnOk result (call.now.options.now.dry_run ≡ false → Takes
+        call.now.options.now number action (option_to_list file) (F.records folder.old)
+        (F.records folder.new) (F.files folder.old) (F.files folder.new)) }
     ensures stopped { IfErr result (λ stop. LeftBy stop (F.records folder.old)
         (F.records folder.new) (F.files folder.old) (F.files folder.new)) }
     ensures unchanged { call.now.options.now.dry_run ≡ true → IsUnchanged (F.records folder.old)

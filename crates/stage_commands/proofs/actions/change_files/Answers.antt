@@ -4,6 +4,9 @@ use Rattle.stage_commands.proofs.actions.change_files.Goals as goal
 pub returns-in-Halt-clause-done : goal.returns-in-Halt-clause-done
 returns-in-Halt-clause-done g c = rw c.in-Halt.is c.halt.ensures.done
 
+pub returns-in-HaltRelease-clause-done : goal.returns-in-HaltRelease-clause-done
+returns-in-HaltRelease-clause-done g c = rw c.in-HaltRelease.is c.halt_release.ensures.done
+
 pub returns-in-Raise-clause-done : goal.returns-in-Raise-clause-done
 returns-in-Raise-clause-done g c = rw c.in-Raise.is c.raise.ensures.done
 
@@ -21,3 +24,28 @@ returns-in-Status-clause-done g c = rw c.in-Status.is (λ dry. (refl, refl))
 
 pub returns-in-History-clause-done : goal.returns-in-History-clause-done
 returns-in-History-clause-done g c = rw c.in-History.is (λ dry. (refl, refl))
+
+pub returns-in-Halt-clause-planned : goal.returns-in-Halt-clause-planned
+returns-in-Halt-clause-planned g c = rw c.in-Halt.is c.halt.ensures.planned
+
+pub returns-in-HaltRelease-clause-planned : goal.returns-in-HaltRelease-clause-planned
+returns-in-HaltRelease-clause-planned g c =
+    rw c.in-HaltRelease.is c.halt_release.ensures.planned
+
+pub returns-in-Raise-clause-planned : goal.returns-in-Raise-clause-planned
+returns-in-Raise-clause-planned g c = rw c.in-Raise.is c.raise.ensures.planned
+
+pub returns-in-Back-clause-planned : goal.returns-in-Back-clause-planned
+returns-in-Back-clause-planned g c = rw c.in-Back.is c.go_back.ensures.planned
+
+pub returns-in-Put-clause-planned : goal.returns-in-Put-clause-planned
+returns-in-Put-clause-planned g c = rw c.in-Put.is c.put.ensures.planned
+
+pub returns-in-Resume-clause-planned : goal.returns-in-Resume-clause-planned
+returns-in-Resume-clause-planned g c = rw c.in-Resume.is c.resume.ensures.planned
+
+pub returns-in-Status-clause-planned : goal.returns-in-Status-clause-planned
+returns-in-Status-clause-planned g c = rw c.in-Status.is tt
+
+pub returns-in-History-clause-planned : goal.returns-in-History-clause-planned
+returns-in-History-clause-planned g c = rw c.in-History.is tt

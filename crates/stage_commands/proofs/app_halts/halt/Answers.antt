@@ -1,5 +1,11 @@
 use Rattle.stage_commands.proofs.Replacing.{halt_found}
 use Rattle.stage_commands.proofs.app_halts.halt.Goals as goal
+use Rattle.stage_commands.proofs.Left.{on_ok_of}
 
 pub take_file-requires-clause-found : goal.take_file-requires-clause-found
-take_file-requires-clause-found g c = halt_found _ _ _ _ c.in-Ok-planned_file.file c.in-Ok-planned_file.ensures
+take_file-requires-clause-found g c =
+    halt_found _ _ _ _ _ c.in-Ok-planned_file.file c.in-Ok-planned_file.ensures
+
+pub returns-in-Ok-planned_file-clause-planned : goal.returns-in-Ok-planned_file-clause-planned
+returns-in-Ok-planned_file-clause-planned g c =
+    on_ok_of c.take_file.result _ (c.in-Ok-planned_file.file, c.in-Ok-planned_file.ensures)

@@ -1,6 +1,6 @@
 use Rattle.std.proofs.Common.{sym}
 use Rattle.stage_commands.proofs.Left.{last_of, left_undone}
-use Rattle.stage_commands.proofs.Replacing.{gone_back}
+use Rattle.stage_commands.proofs.Replacing.{gone_back, plans_back}
 use Rattle.stage_commands.proofs.backs.go_back.Goals as goal
 
 pub returns-in-Ok-gone_back-clause-done : goal.returns-in-Ok-gone_back-clause-done
@@ -8,7 +8,15 @@ returns-in-Ok-gone_back-clause-done g c = λ wet.
     let lifts = rw c.deref.ensures.value at c.in_default.ensures in
     gone_back (g.D.Disk.known c.args.call.now.disk.now) c.args.call.now.manifest.now
     c.args.call.now.options.now.anyway _ _ _ _ c.in-Ok.recorded _ c.in-Ok.ensures
-    c.in-Some.ensures lifts (c.in-Ok-gone_back.ensures.done wet)
+    c.in-Some.ensures lifts c.in-Ok-gone_back.ensures.unedited
+    (c.in-Ok-gone_back.ensures.done wet)
+
+pub returns-in-Ok-gone_back-clause-planned : goal.returns-in-Ok-gone_back-clause-planned
+returns-in-Ok-gone_back-clause-planned g c =
+    let lifts = rw c.deref.ensures.value at c.in_default.ensures in
+    plans_back (g.D.Disk.known c.args.call.now.disk.now) c.args.call.now.manifest.now
+    c.args.call.now.options.now.anyway _ _ c.in-Ok.recorded _ c.in-Ok.ensures
+    c.in-Some.ensures lifts c.in-Ok-gone_back.ensures.unedited
 
 pub returns-clause-stopped : goal.returns-clause-stopped
 returns-clause-stopped g c =

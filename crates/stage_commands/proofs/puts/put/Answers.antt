@@ -15,3 +15,8 @@ take_step-requires-clause-free g c = (rw c.in-Ok.field-0-is at c.in-Ok.ensures).
 pub take_step-requires-clause-found : goal.take_step-requires-clause-found
 take_step-requires-clause-found g c =
     found_changes _ _ _ _ (rw c.in-Ok.field-0-is at c.in-Ok.ensures).files.changes
+
+pub returns-in-Ok-take_step-clause-planned : goal.returns-in-Ok-take_step-clause-planned
+returns-in-Ok-take_step-clause-planned g c =
+    let plan = rw c.in-Ok.field-0-is at c.in-Ok.ensures in
+    (plan.recorded, plan.are, (c.in-Ok.field-0.files.items, plan.files))

@@ -3,6 +3,7 @@ use Rattle.stage_commands.proofs.resumes.file_by.Goals as goal
 
 pub returns : goal.returns
 returns g c = λ known collected.
-    let found = rw c.deref.ensures.value at c.in_ok-app.ensures in
-    resume known _ _ _ _ c.in_ok-app.app.now _ _ _ collected found
+    let found = rw c.deref.ensures.value at c.in_ok-app.ensures.found in
+    let alone = rw c.deref.ensures.value at c.in_ok-app.ensures.alone in
+    resume known _ _ _ _ _ c.in_ok-app.app.now _ _ _ collected found alone
     c.in_ok-stop_unless_halted.ensures c.in_ok-file.ensures

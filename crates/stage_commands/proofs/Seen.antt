@@ -1,0 +1,56 @@
+-- An action that only looks is planned and done by changing nothing; one that changes files isn't a
+-- look.
+use Rattle.std.proofs.Common.{◌≡◌, refl, sym, ℕ, List, true, false, true≢false}
+use Rattle.bounded_files.specs.Files.{KnownFiles}
+use Rattle.stage_folder.specs.Folders.{KnownFolder, KnownRecords}
+use Rattle.stage_records.specs.declared.action.StageAction.{StageAction}
+use Rattle.stage_records.specs.declared.action.StageAction.TheVariants as action
+use Rattle.stage_servers.specs.Whole.{IsSeenWhole, only_looks}
+use Rattle.stage_servers.specs.declared.options.StageOptions.{StageOptions}
+use Rattle.stage_commands.specs.Actions.{IsStaged}
+use Rattle.stage_commands.specs.Planned.{IsPlanned}
+
+pub planned : (known : KnownFiles) (manifest : List ℕ) (options : StageOptions)
+    (records : KnownRecords) (files : KnownFolder) (did : StageAction) → only_looks did ≡ true
+    → IsPlanned known manifest options records files did
+planned known manifest options records files action.Status looks = tt
+planned known manifest options records files (action.History appid) looks = tt
+planned known manifest options records files action.Back looks = absurd (true≢false (sym looks))
+planned known manifest options records files (action.Halt appid) looks =
+    absurd (true≢false (sym looks))
+planned known manifest options records files (action.HaltRelease appid version) looks =
+    absurd (true≢false (sym looks))
+planned known manifest options records files (action.Raise appid buckets) looks =
+    absurd (true≢false (sym looks))
+planned known manifest options records files (action.Put next) looks =
+    absurd (true≢false (sym looks))
+planned known manifest options records files (action.Resume appid buckets) looks =
+    absurd (true≢false (sym looks))
+
+pub staged : (known : KnownFiles) (manifest : List ℕ) (options : StageOptions)
+    (records : KnownRecords) (files : KnownFolder) (did : StageAction) → only_looks did ≡ true
+    → IsStaged known manifest options did records records files files
+staged known manifest options records files action.Status looks = (refl, refl)
+staged known manifest options records files (action.History appid) looks = (refl, refl)
+staged known manifest options records files action.Back looks = absurd (true≢false (sym looks))
+staged known manifest options records files (action.Halt appid) looks =
+    absurd (true≢false (sym looks))
+staged known manifest options records files (action.HaltRelease appid version) looks =
+    absurd (true≢false (sym looks))
+staged known manifest options records files (action.Raise appid buckets) looks =
+    absurd (true≢false (sym looks))
+staged known manifest options records files (action.Put next) looks =
+    absurd (true≢false (sym looks))
+staged known manifest options records files (action.Resume appid buckets) looks =
+    absurd (true≢false (sym looks))
+
+pub unseen : (records : KnownRecords) (files : KnownFolder) (did : StageAction)
+    → only_looks did ≡ false → IsSeenWhole did records files
+unseen records files action.Status looks = absurd (true≢false looks)
+unseen records files (action.History appid) looks = absurd (true≢false looks)
+unseen records files action.Back looks = tt
+unseen records files (action.Halt appid) looks = tt
+unseen records files (action.HaltRelease appid version) looks = tt
+unseen records files (action.Raise appid buckets) looks = tt
+unseen records files (action.Put next) looks = tt
+unseen records files (action.Resume appid buckets) looks = tt
