@@ -117,7 +117,7 @@ one_limit arrays places numbers raised cell limit wide are within small all =
         → places + (2 ^ 64 - 1 - limit) ≤ 2 ^ 64 - 1
     room p places less small is = omega (arith, less, small, is)
 
--- the ledger of a directory that goes on from the present one
+-- the ledger of a directory that extends the present one
 pub adopted : (ceilings : TableId) (writer : SeatView) (old new : List CellArray)
     (before places numbers next : List ℕ) → IsLedger ceilings writer old before numbers next
     → ArePlaces new places → AreNotLower places before

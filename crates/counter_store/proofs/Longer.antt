@@ -1,4 +1,4 @@
--- A directory that goes on from another has no cell with more places.
+-- A directory that extends another has no cell with more places.
 use Rattle.std.proofs.Common.{◌≡◌, ℕ, ◌-◌, ◌^◌, ◌≤◌, Bool, true, false, List, [], ◌∷◌, ◌++◌}
 use Rattle.std.proofs.Common.{Option, Some, None, length, refl, sym, subst, ◌∙◌, arith}
 use Rattle.std.specs.Prelude.{All, IsFalse, IsTrue, if◌then◌else◌, nat_lt, slice_index}

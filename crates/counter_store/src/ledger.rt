@@ -173,8 +173,8 @@ impl Ledger {
         }
     }
 
-    /// Adopts a directory that goes on from the present one, and opens its cells without a quota.
-    /// One in which a cell has more places than before doesn't go on, and is ignored.
+    /// Adopts a directory that extends the present one, and opens its cells without a quota.
+    /// One in which a cell has more places than before doesn't extend it, and is ignored.
     pub(crate) fn learn(&mut self, alloc: Global, directory: Directory) -> Result<(), AllocError>
         ensures adopted { OnOk result
             (IsPrefix self.old.arrays directory → self.new.arrays ≡ directory) }

@@ -14,7 +14,7 @@ abbrev pub is_ticket : CellEvent → Bool
 is_ticket e = nat_lt e.cell 4096 && adds_one e.op && nat_lt e.reply (2 ^ 63)
 
 -- The words of the 64-bit cells' ceilings are followed by one for each cell's limit, from which on
--- there is no place. It has how far 2^64 - 1 is above the limit: so it only rises.
+-- no addition gets a place. It has how far 2^64 - 1 is above the limit: so it only rises.
 abbrev pub limit_word : (cell : ℕ) → ℕ
 limit_word cell = 4096 + cell
 

@@ -17,7 +17,7 @@ use std::sync::{Arc, Wait};
 use std::time::Duration;
 
 /// A ceiling and a limit for each 64-bit cell, and what is wanted of the store. In contracts it is
-/// the table of the ceilings, which has the limits, too.
+/// the table of the ceilings, which also has the limits.
 #[derive(Drop)]
 pub struct Kept {
     ceilings: Ceilings,
@@ -125,7 +125,7 @@ impl Kept {
     }
 
     /// The limit of a 64-bit cell; 2^64 - 1 if none was set.
-    // open: that it is the one that was set: tests.
+    // Only tests show that it is the one that was set.
     pub(crate) fn limit(&self, reader: &mut Reader, cell: usize) -> u64
         requires own { IsAt self.now reader.old }
         requires cell { cell < 4096 }

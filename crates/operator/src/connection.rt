@@ -26,8 +26,8 @@ const LINE_SIZE: usize = LINE_LIMIT + 1;
 
 /// Reads a line, does what it requests, and returns the reply. Returns `None` if the reader failed;
 /// then nothing was done. `now` is the time that `state` has for a load.
-// open: whether an allocation fails (B4, H1); which line a socket gave. The value of each counter
-// is that at the moment of its load.
+// open: whether an allocation fails (B4, H1); which line a socket gave; that the time of a load is
+// `now`. The value of each counter is that at the moment of its load.
 pub fn answer<H: Wait, R: Read, L: Loader, C: CellSteps>(
     rt: &H,
     alloc: Global,

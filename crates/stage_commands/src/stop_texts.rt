@@ -38,7 +38,7 @@ pub(crate) const EDITED: &str =
 pub(crate) const TWO_CONTENTS: &str = " would get two contents: give each file of the manifest its \
     own name, and call it again";
 
-/// A statement of a rule can't be found by itself.
+/// A statement of a rule can't be found.
 const TOO_LONG: &str = " isn't changed: one of its statements is too long: edit a copy, and put it";
 
 /// The rule is the one of a halt of the whole app.

@@ -1,4 +1,4 @@
--- What a server serves, and when an action goes on there.
+-- What a server serves, and when an action continues there.
 use Rattle.std.proofs.Common.{◌≡◌, ◌∙◌, ap, refl, Bool, true, false}
 use Rattle.std.specs.Prelude.{◌||◌, not, IfSome, List, ℕ, Option, Some, None}
 use Rattle.bounded_files.specs.Files.{KnownFiles}

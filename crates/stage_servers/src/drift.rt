@@ -137,7 +137,7 @@ fn is_strange(serves: &Serves) -> bool
     }
 }
 
-// Whether so many later steps are done as an action expects.
+// Whether as many later steps are done as an action expects.
 fn is_last(action: &StageAction<'_>, later: usize) -> bool
     ensures { result ≡ specs.is_last action.now later }
 {

@@ -92,7 +92,7 @@ pub(crate) fn push_steps<F: StageFolder>(
     }
 }
 
-/// Whether there are no numbers.
+/// Whether this list is empty.
 pub(crate) fn are_none(numbers: &[u32]) -> bool
     ensures { result ≡ true → numbers.now ≡ [] }
 {

@@ -161,7 +161,7 @@ where
     }
 }
 
-// Adds that an app stays halted where a halt of one release isn't loaded.
+// Adds that an app stays halted if a halt of one release isn't loaded.
 fn push_stays(stderr: &mut TextBuffer, action: &StageAction<'_>) {
     if let StageAction::HaltRelease { appid, version } = *action {
         stderr.push_printed("stage: ", appid, " stays halted there: mend that, ");

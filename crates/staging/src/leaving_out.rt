@@ -1,5 +1,5 @@
 //! The text of a rule without the statements that offer a version. Each statement is found in the
-//! text, and read by itself.
+//! text, and read alone.
 
 ghost use Rattle.std.specs.Prelude.{◌≡◌, ◌++◌, ◌∷◌, ◌<◌, ◌==◌, [], ℕ, List, length, filter};
 ghost use Rattle.std.specs.Prelude.{IfOk, IfSome, OnOk, true, if◌then◌else◌, string_bytes};
@@ -15,7 +15,7 @@ use std::alloc::{AllocError, Global};
 
 // ---- the parts of a text
 
-// How long the blanks, line ends and comments at the beginning are.
+// How long the blanks, line ends and comments at the start are.
 fn gap_length(text: &[u8]) -> usize {
     let mut in_comment = false;
     for place in 0..text.len() {
@@ -60,7 +60,7 @@ struct Split<'a> {
     rest: &'a str,
 }
 
-// What precedes the first statement of a text, or that statement. Where it ends only has to be
+// What precedes the first statement of a text, or that statement. Its end only has to be
 // right for rules: nothing is proved about it.
 fn next_part(text: &str) -> Option<Split<'_>>
     ensures { IfSome result (λ split. (text.now ≡ split.part.now ++ split.rest.now)
