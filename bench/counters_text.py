@@ -1,5 +1,5 @@
 """A second reader of files of counters, for `bench/counters`. It was written from docs/PROGRAM.md,
-"The file of counters", and docs/DECISIONS.md, "Counters", without a look at the program.
+"The file of counters", and docs/SPECIFICATION.md, "Counters", without a look at the program.
 """
 import re
 from dataclasses import dataclass, field

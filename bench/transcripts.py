@@ -12,7 +12,7 @@ import subprocess
 from hosts import PATIENCE, ROOT, needs
 from operating import BUILT, Day
 
-PAGES_OF_COMMANDS = [f"docs/{it}.md" for it in ("PROGRAM", "RULES", "DECISIONS", "VERIFIER")] + ["README.md"]
+PAGES_OF_COMMANDS = [f"docs/{it}.md" for it in ("PROGRAM", "RULES", "SPECIFICATION", "VERIFIER")] + ["README.md"]
 C_PAGE = ROOT / "docs" / "C.md"
 BLOCK = re.compile(r"^```\n(\$ (?:\./rollout|cat|curl) .*?)^```$", re.M | re.S)
 COMMAND = re.compile(r"^\$ (.*)\n((?:(?!\$ ).*\n)*)", re.M)

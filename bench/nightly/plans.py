@@ -1,4 +1,4 @@
-"""What a call of `stage` has to do, by docs/OPERATING.md and docs/DECISIONS.md: which files it
+"""What a call of `stage` has to do, by docs/OPERATING.md and docs/SPECIFICATION.md: which files it
 replaces, which step it records, which halts it lifts, and which stops are right."""
 from dataclasses import dataclass, field
 

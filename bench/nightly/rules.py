@@ -1,5 +1,5 @@
 """Manifests, rules and programs for `nights`: their bytes, and what they offer. The meaning is
-written from docs/RULES.md and docs/DECISIONS.md, and shares no code with the program."""
+written from docs/RULES.md and docs/SPECIFICATION.md, and shares no code with the program."""
 import hashlib
 import re
 from dataclasses import dataclass

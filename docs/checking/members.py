@@ -13,7 +13,7 @@ NAMED = [
     ("warning", "warnings/src/warning_names.rt", r'"([a-z-]+)" => true', "PROGRAM.md"),
     ("member", "omaha_json/specs/Members.antt", r'bytes_eq name \(codes "(\w+)"\)', "CLIENTS.md"),
     ("member", "omaha_json/specs/Request.antt", r'text_in \(codes "(\w+)"\)', "CLIENTS.md"),
-    ("member", "manifest/src/kind.rt", r'"([a-z_0-9]+)"', "DECISIONS.md"),
+    ("member", "manifest/src/kind.rt", r'"([a-z_0-9]+)"', "SPECIFICATION.md"),
     ("member", "access_log/specs/*.antt", r'codes "([a-z_0-9]+)"', "PROGRAM.md"),
 ]
 # The number of bytes that were cut off: the page says this once for all of them.

@@ -2,7 +2,7 @@
 //! concrete values that it represents. Everything has a fixed size; nothing here allocates or
 //! fails.
 //!
-//! See docs/DECISIONS.md, "The verifier".
+//! See docs/SPECIFICATION.md, "The verifier".
 #![tactic(auto)]
 
 // The method is abstract interpretation. The verifier runs a program once, on abstract values

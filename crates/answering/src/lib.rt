@@ -11,7 +11,7 @@
 //! constructor for each outcome, defines that reply under the watcher's ruleset, and the events
 //! that the runs made. The pass, a ghost token, grew by these events.
 //!
-//! See docs/DECISIONS.md, "Requests"; docs/DECISIONS.md, "The front".
+//! See docs/SPECIFICATION.md, "Requests"; docs/SPECIFICATION.md, "The front".
 #![tactic(auto)]
 
 mod answer_buffers;

@@ -1,7 +1,7 @@
 //! The facts of one app of an Omaha 3.1 request at a moment, in a rollout program's form: a context
 //! of 64 bytes, and texts by number.
 //!
-//! See docs/DECISIONS.md, "The context".
+//! See docs/SPECIFICATION.md, "The context".
 #![tactic(auto)]
 
 mod app_context;

@@ -1,6 +1,6 @@
 //! Files of bounded length, of any kind or only regular ones.
 //!
-//! See docs/DECISIONS.md, "Manifests".
+//! See docs/SPECIFICATION.md, "Manifests".
 #![tactic(auto)]
 
 // A file is read to one byte past its limit, which shows whether it is longer, and takes no more

@@ -1,7 +1,7 @@
 //! The rules of the verifier: what one instruction reads, writes and accesses, which rule it
 //! breaks, and how it changes the abstract state.
 //!
-//! See docs/DECISIONS.md, "The verifier"; docs/DECISIONS.md, "Helpers".
+//! See docs/SPECIFICATION.md, "The verifier"; docs/SPECIFICATION.md, "Helpers".
 #![tactic(auto)]
 
 // The method. The verifier visits each slot of a program with the abstract state before it, an

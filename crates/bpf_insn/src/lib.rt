@@ -2,7 +2,7 @@
 //! divmul64, atomic32 and atomic64. `decode_at` reads the instruction that bytes spell, and
 //! `encode` writes it.
 //!
-//! See docs/DECISIONS.md, "The encoding"; docs/PROGRAM.md, "Refusals".
+//! See docs/SPECIFICATION.md, "The encoding"; docs/PROGRAM.md, "Refusals".
 #![tactic(auto)]
 
 mod arithmetic;

@@ -7,7 +7,7 @@
 //! `Run` holds a program that the verifier accepted, and represents at least one state that the
 //! verifier covers; so no step of a run is a trap.
 //!
-//! See docs/DECISIONS.md, "The machine".
+//! See docs/SPECIFICATION.md, "The machine".
 #![tactic(auto)]
 
 mod access;

@@ -3,7 +3,7 @@
 //! no code. The machine's numbers are also here for code: its regions, its helpers, and the size
 //! and effect of each access.
 //!
-//! See docs/DECISIONS.md, "The machine".
+//! See docs/SPECIFICATION.md, "The machine".
 #![tactic(auto)]
 
 mod accesses;

@@ -3,7 +3,7 @@
 //! mnemonics, `argument` the arguments that the listing writes, and `signature` the kinds of
 //! operands that the assembler reads.
 //!
-//! See docs/PROGRAM.md, "Assembly text"; docs/DECISIONS.md, "The assembly text".
+//! See docs/PROGRAM.md, "Assembly text"; docs/SPECIFICATION.md, "The assembly text".
 #![tactic(auto)]
 
 mod argument;

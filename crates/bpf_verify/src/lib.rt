@@ -1,7 +1,7 @@
 //! The verifier decides which programs may run. `verify` accepts a program, or refuses it with a
 //! slot and a rule. An accepted program never does what the machine leaves undefined.
 //!
-//! See docs/DECISIONS.md, "The verifier"; docs/PROGRAM.md, "Refusals".
+//! See docs/SPECIFICATION.md, "The verifier"; docs/PROGRAM.md, "Refusals".
 #![tactic(auto)]
 
 // The method. All jumps go forward, so one sweep upwards over the slots visits each instruction

@@ -1,7 +1,7 @@
 //! Ceilings of counters: numbers that one thread raises, and that the others look at without
 //! waiting.
 //!
-//! See docs/DECISIONS.md, "Counters".
+//! See docs/SPECIFICATION.md, "Counters".
 #![tactic(auto)]
 
 // A ceiling is an atomic word for each counter, in a table that threads share (`atomic_table`). Its

@@ -1,7 +1,7 @@
 //! Counters that outlive a run: 8192 cells, the operations on them, and the arrays of cells that a
 //! server declares by name.
 //!
-//! See docs/DECISIONS.md, "Counters".
+//! See docs/SPECIFICATION.md, "Counters".
 #![tactic(auto)]
 
 mod array;

@@ -1,7 +1,7 @@
 //! The store of a server's counters: it commits numbers above the places that the workers will
 //! send, before they send them.
 //!
-//! See docs/DECISIONS.md, "Counters".
+//! See docs/SPECIFICATION.md, "Counters".
 #![tactic(auto)]
 
 // For each cell of a quota the file has a number, with which the next server opens it. The workers

@@ -1,7 +1,7 @@
 //! A file of counters: with which halted apps, arrays and values a server opens. It is text that an
 //! operator reads, copies and edits.
 //!
-//! See docs/DECISIONS.md, "Counters".
+//! See docs/SPECIFICATION.md, "Counters".
 #![tactic(auto)]
 
 // The first line names the format, the second says whether the server that wrote it was stopped.

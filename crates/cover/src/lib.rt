@@ -1,7 +1,7 @@
 //! Which replies may be sent: those of which each counter's place is stored, so that a crash can't
 //! give it to another client.
 //!
-//! See docs/DECISIONS.md, "Counters".
+//! See docs/SPECIFICATION.md, "Counters".
 #![tactic(auto)]
 
 mod cover;

@@ -1,7 +1,7 @@
 //! Arrays of counters as the owner of a server writes them, and their declaration in a directory:
 //! all in order, or the first that is refused.
 //!
-//! See docs/DECISIONS.md, "Counters".
+//! See docs/SPECIFICATION.md, "Counters".
 #![tactic(auto)]
 
 mod declaration;

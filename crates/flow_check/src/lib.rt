@@ -2,7 +2,7 @@
 //! and accepts it if every edge of its control flow graph leads forward onto an instruction and
 //! every instruction is reached.
 //!
-//! See docs/DECISIONS.md, "The graph"; docs/PROGRAM.md, "Refusals".
+//! See docs/SPECIFICATION.md, "The graph"; docs/PROGRAM.md, "Refusals".
 #![tactic(auto)]
 
 mod edges;

@@ -1,7 +1,7 @@
 //! Halted apps: the ruleset that a server serves while its operator halts some of its apps. The
 //! program of each of these is replaced by one that always chooses none, and nothing else changes.
 //!
-//! See docs/DECISIONS.md, "The operator's port".
+//! See docs/SPECIFICATION.md, "The operator's port".
 #![tactic(auto)]
 
 mod halted_list;

@@ -10,7 +10,7 @@
 //! reader gets the ruleset. So each published ruleset comes with the list of all installs up to it.
 //! What a watcher has read, what a notice has and what was installed are prefixes of one list.
 //!
-//! See docs/DECISIONS.md, "The published ruleset".
+//! See docs/SPECIFICATION.md, "The published ruleset".
 #![tactic(auto)]
 
 mod book;

@@ -6,7 +6,7 @@
 //! possible, and at most a head's limit is read. Only then are the target, the method and the
 //! length checked, in this order, and the buffer for the body is allocated, once.
 //!
-//! See docs/DECISIONS.md, "The front".
+//! See docs/SPECIFICATION.md, "The front".
 #![tactic(auto)]
 
 mod body;

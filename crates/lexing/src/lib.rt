@@ -1,7 +1,7 @@
 //! What the languages of this repository share: letters, digits and numbers, in assembler, rules,
 //! names of arrays, versions, declarations and scripts.
 //!
-//! See docs/DECISIONS.md, "Rules"; docs/DECISIONS.md, "The assembly text".
+//! See docs/SPECIFICATION.md, "Rules"; docs/SPECIFICATION.md, "The assembly text".
 #![tactic(auto)]
 
 mod decimal;

@@ -1,6 +1,6 @@
 //! Loading: a manifest and its files become a ruleset, and its arrays are declared.
 //!
-//! See docs/DECISIONS.md, "Manifests".
+//! See docs/SPECIFICATION.md, "Manifests".
 #![tactic(auto)]
 
 // How a load works. First everything is gathered (`sources.rt`). The manifest is read, and its

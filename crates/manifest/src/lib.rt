@@ -30,7 +30,7 @@
 //! member in the order of this sample. So a manifest has at most one schema error, whose path leads
 //! to the member.
 //!
-//! See docs/DECISIONS.md, "Manifests".
+//! See docs/SPECIFICATION.md, "Manifests".
 #![tactic(auto)]
 
 mod app;

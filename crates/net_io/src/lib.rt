@@ -6,7 +6,7 @@
 //! isn't ready waits for the time that is left. So a client that sends a byte now and then is
 //! dropped like a silent one. `FailAt` is for tests.
 //!
-//! See docs/DECISIONS.md, "The front".
+//! See docs/SPECIFICATION.md, "The front".
 #![tactic(auto)]
 
 mod counted;

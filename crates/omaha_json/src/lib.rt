@@ -2,7 +2,7 @@
 //! body to a request, or the first fault; and from a request, and what was found for its apps, to
 //! the bytes of the reply.
 //!
-//! See docs/DECISIONS.md, "Requests".
+//! See docs/SPECIFICATION.md, "Requests".
 #![tactic(auto)]
 
 mod app;

@@ -12,7 +12,7 @@
 //! The contract of `perform` is one relation, with a constructor for each outcome of a request. It
 //! has the reply, the ruleset and arrays afterwards, and the events by which the cells were read.
 //!
-//! See docs/DECISIONS.md, "The operator's port".
+//! See docs/SPECIFICATION.md, "The operator's port".
 #![tactic(auto)]
 
 mod client;

@@ -2,7 +2,7 @@
 //! returns a trap for an undefined step. It is slow and simple, and runs any program, accepted or
 //! not; tests compare the fast machine with it.
 //!
-//! See docs/DECISIONS.md, "The machine".
+//! See docs/SPECIFICATION.md, "The machine".
 #![tactic(auto)]
 
 mod attempt;

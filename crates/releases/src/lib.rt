@@ -1,7 +1,7 @@
 //! Apps and their releases: the appid, and for each release its version, the URL of its files, and
 //! a description of each file. Replies of Omaha 3.1 have these texts as the manifest has them.
 //!
-//! See docs/DECISIONS.md, "Manifests".
+//! See docs/SPECIFICATION.md, "Manifests".
 #![tactic(auto)]
 
 mod appid;

@@ -1,7 +1,7 @@
 //! A quota over several starts of a server, each of which began with the counters that the one
 //! before left.
 //!
-//! See docs/DECISIONS.md, "Counters".
+//! See docs/SPECIFICATION.md, "Counters".
 #![tactic(auto)]
 
 // Along a legal history the additions of 1 to a quota's cell that reply below the quota are

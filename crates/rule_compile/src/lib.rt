@@ -6,7 +6,7 @@
 //! otherwise falls through to the code after it. So each test has one jump, and no jump leads to a
 //! jump.
 //!
-//! See docs/DECISIONS.md, "Rules".
+//! See docs/SPECIFICATION.md, "Rules".
 #![tactic(auto)]
 
 // The proof is by continuations. Assume that from the rest of the code a run does what some

@@ -1,6 +1,6 @@
 //! Rules: a small language that says which apps get which release.
 //!
-//! See docs/DECISIONS.md, "Rules".
+//! See docs/SPECIFICATION.md, "Rules".
 #![tactic(auto)]
 
 // The method. The language has three definitions here, each for what the others can't do.

@@ -1,7 +1,7 @@
 //! Rulesets: the configuration of a server, which is its apps, each with a verified program and its
 //! releases.
 //!
-//! See docs/DECISIONS.md, "The world".
+//! See docs/SPECIFICATION.md, "The world".
 #![tactic(auto)]
 
 mod app;

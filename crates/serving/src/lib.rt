@@ -7,7 +7,7 @@
 //! can fail does so before a server prints that it serves, which it does once its threads also
 //! exist (`workers`).
 //!
-//! See docs/DECISIONS.md, "The server".
+//! See docs/SPECIFICATION.md, "The server".
 #![tactic(auto)]
 
 mod bell;

@@ -1,7 +1,7 @@
 //! Counters that threads share without waiting for one another: 8192 atomic words, each changed by
 //! single atomic steps, and one history of all that was done to them.
 //!
-//! See docs/DECISIONS.md, "Counters".
+//! See docs/SPECIFICATION.md, "Counters".
 #![tactic(auto)]
 
 // The method. The threads share a table of 8192 words (`atomic_table`), one for each cell, and

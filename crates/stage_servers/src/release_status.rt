@@ -42,7 +42,7 @@ fn is_offered(standing: &Standing<'_>, app: &AppSources, version: &str) -> bool 
     matches!(known_offer(standing.alloc, app, version), Ok(Some(true)))
 }
 
-/// Adds a line of each release of an app that is halted alone, and that its file doesn't offer.
+/// Adds a line of each halted release of an app, which its file doesn't offer.
 pub(crate) fn push_releases(
     standing: &Standing<'_>,
     app: &AppSources,

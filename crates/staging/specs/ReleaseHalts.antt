@@ -67,7 +67,7 @@ module _ (shape : AppShape) (releases : List Release) (version : List ℕ) where
 
   -- ---- its text
 
-  -- a part of a text, from `when` to `;`, that is read alone as a statement of this version
+  -- a part of a text, from `when` to `;`, that is read separately as a statement of this version
   pub record IsOfferText (part : List ℕ) : Type 0 where
     pub begins : starts_with nat_eq part (codes "when") ≡ true
     pub ends : ends_with nat_eq part (codes ";") ≡ true

@@ -1,5 +1,5 @@
 //! The text of a rule without the statements that offer a version. Each statement is found in the
-//! text, and read alone.
+//! text, and read separately.
 
 ghost use Rattle.std.specs.Prelude.{◌≡◌, ◌++◌, ◌∷◌, ◌<◌, ◌==◌, [], ℕ, List, length, filter};
 ghost use Rattle.std.specs.Prelude.{IfOk, IfSome, OnOk, true, if◌then◌else◌, string_bytes};

@@ -80,8 +80,7 @@ fn lifted_release<'a>(
 }
 
 /// The app of a halt that the next manifest may lift: it isn't surely offered by the current one,
-/// and may be by the next. The same of a release that is halted alone, for which both rules are
-/// read.
+/// and may be by the next. The same of a halted release, for which both rules are read.
 // open: whether an allocation fails, which is its one error.
 pub fn lifted_app<'a>(
     alloc: Global,

@@ -13,7 +13,7 @@ pub enum WithoutFault {
     NoRelease,
     /// L1 to L4: the text isn't a rule.
     NoRule(RuleFault),
-    /// The statements are found only by hand: one of them is too long to be read alone.
+    /// The statements are found only by hand: one of them is too long to be read separately.
     NotFound,
     /// An allocation failed.
     Memory,

@@ -1,7 +1,7 @@
 //! What many threads did on shared counters is what one world does, and threads only count on the
 //! cell of a quota.
 //!
-//! See docs/DECISIONS.md, "The world"; docs/DECISIONS.md, "Counters".
+//! See docs/SPECIFICATION.md, "The world"; docs/SPECIFICATION.md, "Counters".
 #![tactic(auto)]
 
 // One world. The work of each thread is known: it made its runs one after the other, each from its

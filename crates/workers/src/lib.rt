@@ -17,7 +17,7 @@
 //! bytes a socket carried, and nothing is proved about clocks. Nor is anything proved about a
 //! server that gives up, since memory or a thread failed or its line couldn't be written.
 //!
-//! See docs/DECISIONS.md, "The server".
+//! See docs/SPECIFICATION.md, "The server".
 #![tactic(auto)]
 
 mod accept;

@@ -1,6 +1,6 @@
 //! All workers of a server, its rulesets and its counters, as one list of events.
 //!
-//! See docs/DECISIONS.md, "The world".
+//! See docs/SPECIFICATION.md, "The world".
 #![tactic(auto)]
 
 // How it keeps its promise: docs/PROOF.md, section 5, "One event at a time" to "Safe worlds".

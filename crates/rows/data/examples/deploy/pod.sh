@@ -8,7 +8,8 @@
 set -eu
 place=/etc/rollout
 
-# The manifest with this pod's share. A quota of fewer than REPLICAS leaves a pod with 0, which is
+# The manifest with this pod's share of each line `quota = N`; a quota that is written otherwise, as in
+# `{ .., quota = N }`, stays whole. A quota of fewer than REPLICAS leaves a pod with 0, which is
 # refused.
 share() {
     number=${HOSTNAME##*-}

@@ -3,8 +3,8 @@
 # installs failed, and more than 5 percent; none fails before it has 20. Nobody is asked first, so it
 # is only an example.
 #
-#   cp rollout-halt-failing.sh /etc/rollout/halt-failing
-#   echo '* * * * * root /etc/rollout/halt-failing editor' > /etc/cron.d/rollout-halt-failing
+#   cp rollout-halt-failing.sh /usr/local/sbin/rollout-halt-failing
+#   echo '* * * * * root /usr/local/sbin/rollout-halt-failing editor' > /etc/cron.d/rollout-halt-failing
 #
 # Clients aren't authenticated: anyone who reports three failed installs can stop a release so. Each
 # version is halted once: after `rollout resume` and `rollout stage resume` it goes on, failing or not.
