@@ -175,7 +175,7 @@ fn no_counters(alloc: Global) -> Result<Counters, CountersFault>
 /// The store of the counters of a server that is ready. What the server opens with is written to
 /// the file, which says from then on that it is served. Returns K4 if it can't be written, and B4
 /// if an allocation fails.
-// open: when these are returned.
+// open: when these are returned; that the store has the halts of the server.
 pub fn store_of<F: KeptFile + Drop>(
     alloc: Global,
     mut file: F,
