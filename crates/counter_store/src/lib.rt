@@ -11,7 +11,7 @@
 // commit a crash cuts off.
 //
 // The ledger (`ledger.rt`) keeps this as an invariant: each place below a ceiling that was ever
-// raised is below the cell's number. The ceiling of a cell that has no quota, or whose number has
+// raised is below the cell's number, and no limit is below the cell's quota. The ceiling of a cell that has no quota, or whose number has
 // reached the quota, is 2^64 - 1, since no place is left to store.
 
 mod counter_store;
