@@ -11,8 +11,9 @@
 // commit a crash cuts off.
 //
 // The ledger (`ledger.rt`) keeps this as an invariant: each place below a ceiling that was ever
-// raised is below the cell's number, and no limit is below the cell's quota. The ceiling of a cell that has no quota, or whose number has
-// reached the quota, is 2^64 - 1, since no place is left to store.
+// raised is below the cell's number, and no limit is below the cell's quota. The ceiling of a cell
+// that has no quota, or whose number has reached the quota, is 2^64 - 1, since no place is left to
+// store.
 
 mod counter_store;
 mod laws;
