@@ -54,8 +54,8 @@ is_expected action serves.Unknown = true
 is_expected action (serves.Step number later files left) = is_last action later
 is_expected action other = false
 
--- a halt continues; at a server with a strange app only `--other-server` does, and at one that serves
--- something else than is expected only `--anyway`
+-- a halt continues; at a server with a strange app only `--other-server` does, and at one that
+-- serves something else than is expected only `--anyway`
 abbrev pub stops_by : (halts strange other expected anyway : Bool) → Bool
 stops_by true strange other expected anyway = false
 stops_by false true other expected anyway = not other

@@ -1,4 +1,4 @@
-//! Which releases of an app are halted by themselves, since when, by whom and why.
+//! Which single releases of an app are halted, since when, by whom and why.
 
 // No contract says what is printed: rows compare it.
 
