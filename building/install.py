@@ -38,8 +38,6 @@ PRINTED = {
 # The scripts that check the pages aren't installed, and neither is an existing reference, since it
 # may belong to other sources.
 LEFT_OUT = shutil.ignore_patterns("*.py", "checking", "__pycache__", "reference")
-# Where pages link to examples: the folder that git has, and the one beside the installed pages.
-EXAMPLES, INSTALLED_EXAMPLES = "crates/rows/data/examples", "examples"
 
 
 def beside(place, ending):
@@ -84,12 +82,6 @@ def completion(shell):
     return done.stdout
 
 
-def relink(pages):
-    """Links the pages to the installed examples."""
-    for it in pages:
-        it.write_text(it.read_text().replace(EXAMPLES, INSTALLED_EXAMPLES))
-
-
 def write_beside(source, place, undo):
     make_folder(place.parent, undo)
     new = beside(place, "new")
@@ -100,12 +92,9 @@ def write_beside(source, place, undo):
     elif source.is_dir():
         shutil.copytree(source, new, ignore=LEFT_OUT)
         if source == DOCS:
-            relink(new.glob("*.md"))
             write_reference(new / "reference")
     else:
         shutil.copy(source, new)
-        if new.name.endswith(".md.new"):
-            relink([new])
         with open(new) as it:
             # It is on the disk before it replaces another file.
             os.fsync(it.fileno())

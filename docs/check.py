@@ -11,11 +11,11 @@ few long sentences. Each wrong body can be put in place: what it replaces is in 
 `plain.txt` and `weight.txt` bound the words of this house in comments, and the words of each page.
 Each crate of a line of crates.txt is named there, and `edges.txt` has a reason for each that is
 named for little and drags much.
-Each file of rows is run, and its rows are counted anew. The page of help that the launcher prints
-is that of the programs, and has each of their commands, as has each list of the commands of one program. CONTRIBUTING's recipes
-name each file that their searches find, ERRORS has each code of the sources, and other pages each
-option, each warning, and each member of requests, manifests and the log. Tests that pages name are
-there.
+Each file of rows is run, and its rows are counted anew; the examples that rows read are those of
+`examples`. The page of help that the launcher prints is that of the programs, and has each of their
+commands, as has each list of the commands of one program. CONTRIBUTING's recipes name each file
+that their searches find, ERRORS has each code of the sources, and other pages each option, each
+warning, and each member of requests, manifests and the log. Tests that pages name are there.
 
 usage: docs/check.py [--write | --reference FOLDER | --long | --words CRATE]
 
@@ -29,7 +29,7 @@ import sys
 from pathlib import Path
 
 from checking import (
-    codes, commands, crates_page, edges, left_open, members, plain, quotes, recipes, reference,
+    codes, commands, crates_page, edges, examples, left_open, members, plain, quotes, recipes, reference,
     rows, weight
 )
 from checking.edits import lost_edits
@@ -54,6 +54,7 @@ def write():
         page.write_text(anew(page.read_text()))
     plain.lower()
     weight.lower()
+    examples.copy()
 
 
 def faults():
@@ -78,6 +79,7 @@ def faults():
     yield from plain.too_many()
     yield from weight.too_heavy()
     yield from edges.faults()
+    yield from examples.other_copies()
     yield from rows.left_out()
     yield from rows.lost_tests()
     yield from rows.false_counts()
