@@ -1,6 +1,6 @@
 -- Clients that have a release: whether one of them gets it again, or another by its version.
-use Rattle.std.specs.Prelude.{ℕ, ◌*◌, List, [], length, nat_le, Option, unwrap_or, is_some}
-use Rattle.std.specs.Prelude.{Bool, false, ◌&&◌, ◌||◌}
+use Rattle.std.specs.Prelude.{ℕ, ◌*◌, List, [], length, nat_le, Option, Some, None, unwrap_or}
+use Rattle.std.specs.Prelude.{is_some, Bool, false, ◌&&◌, ◌||◌, if◌then◌else◌}
 use Rattle.std.specs.List.{count_by, list_any}
 use Rattle.attrs.specs.Attributes.{Attributes}
 use Rattle.rule_lang.specs.declared.condition.Step.{Step}
@@ -49,8 +49,14 @@ abbrev pub are_few : (evaluations : ℕ) → List Statement → Bool
 are_few evaluations rule =
     nat_le evaluations 1000 && is_some (budget_less (budget_taken evaluations rule) 1000)
 
+-- for how many clients of its `when`s a rule is evaluated, if that costs little enough
+abbrev pub client_evaluations : RuleOfApp → Option ℕ
+client_evaluations r =
+    let evaluations = count_by has_client r.rule * length r.releases in
+    if are_few evaluations r.rule then Some evaluations else None
+
 abbrev pub clients_are_few : RuleOfApp → Bool
-clients_are_few r = are_few (count_by has_client r.rule * length r.releases) r.rule
+clients_are_few r = is_some (client_evaluations r)
 
 -- a client that sends only its version gets such a release; or, if these are few, the client of
 -- some `when`

@@ -2,7 +2,8 @@
 -- which it is evaluated.
 use Rattle.std.specs.Prelude.{ℕ, ◌+◌, List, [], ◌∷◌, ◌++◌, not}
 use Rattle.std.specs.Prelude.{length, Bool, true, false, ◌&&◌, nat_lt, if◌then◌else◌}
-use Rattle.std.specs.Prelude.{Option, Some, None, is_some, unwrap_or, codes, nat_eq}
+use Rattle.std.specs.Prelude.{Option, Some, None, is_some, option_and_then, unwrap_or, codes}
+use Rattle.std.specs.Prelude.{nat_eq}
 use Rattle.std.specs.List.{list_any, starts_with}
 use Rattle.attrs.specs.Bucket.{cohort_bucket}
 use Rattle.attrs.specs.declared.vocabulary.Attribute.TheVariants.{Cohort}
@@ -23,7 +24,7 @@ use Rattle.warnings.specs.declared.warning.WarningKind.{WarningKind}
 use Rattle.warnings.specs.declared.warning.WarningKind.TheVariants as kind
 use Rattle.warnings.specs.Budget.{budget_less, budget_taken}
 use Rattle.warnings.specs.Evaluation.{RuleOfApp, all_buckets, arrives, may_end, may_give, someone}
-use Rattle.warnings.specs.Getting.{someone_gets}
+use Rattle.warnings.specs.Getting.{client_evaluations, someone_gets}
 use Rattle.warnings.specs.Spots.{spots_of}
 use Rattle.warnings.specs.Warnings.{warned, warned_if}
 
@@ -168,9 +169,15 @@ evaluated_releases app number r spots (release ∷ later) =
 
 -- ---- the budget of evaluation
 
+-- what is left after evaluating a rule at `versions` versions, and for the clients of its `when`s
+abbrev pub budget_by : (versions : ℕ) → RuleOfApp → (budget : ℕ) → Option ℕ
+budget_by versions r budget =
+    option_and_then
+    (budget_less (budget_taken (unwrap_or (client_evaluations r) 0) r.rule))
+    (budget_less (budget_taken versions r.rule) budget)
+
 abbrev pub budget_after : RuleOfApp → (budget : ℕ) → Option ℕ
-budget_after r budget =
-    budget_less (budget_taken (length (spots_of r.rule) + length r.releases) r.rule) budget
+budget_after r budget = budget_by (length (spots_of r.rule) + length r.releases) r budget
 
 -- the budget of all rules of a manifest
 abbrev pub whole_budget : ℕ

@@ -118,15 +118,20 @@ fn are_few(evaluations: u64, statements: &[Statement]) -> bool
         && remaining_budget(evaluations, CLIENT_BUDGET, statements).is_some()
 }
 
-// Whether their evaluations for all releases cost little enough.
-fn clients_are_few(evaluated: &EvaluatedRule<'_>) -> bool
-    ensures { result ≡ specs.clients_are_few (rule_of evaluated.now) }
+/// For how many clients of its `when`s a rule is evaluated: each of them for each release. `None` if
+/// that would cost more than 1000 units.
+pub(crate) fn client_evaluations(evaluated: &EvaluatedRule<'_>) -> Option<u64>
+    ensures { result ≡ specs.client_evaluations (rule_of evaluated.now) }
 {
     let clients = client_count(evaluated.statements) as u64;
     let Some(evaluations) = clients.checked_mul(evaluated.releases.len() as u64) else {
-        return false;
+        return None;
     };
-    are_few(evaluations, evaluated.statements)
+    if are_few(evaluations, evaluated.statements) {
+        Some(evaluations)
+    } else {
+        None
+    }
 }
 
 fn statement_gets(
@@ -184,7 +189,7 @@ pub(crate) fn someone_gets(
     if client_gets(alloc, evaluated, by, version, &[])? {
         return Ok(true);
     }
-    if clients_are_few(evaluated) {
+    if client_evaluations(evaluated).is_some() {
         some_statement_gets(alloc, evaluated, by, version)
     } else {
         Ok(false)

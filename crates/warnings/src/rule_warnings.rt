@@ -7,6 +7,7 @@ ghost use Rattle.warnings.specs.Spots as places;
 
 use crate::budget::remaining_budget;
 use crate::evaluating::EvaluatedRule;
+use crate::getting::client_evaluations;
 use crate::given::push_given_warnings;
 use crate::marks::marks_of;
 use crate::parts::push_parts_of_rule;
@@ -31,6 +32,18 @@ fn push_answer_warnings(
     push_given_warnings(alloc, warnings, app, evaluated, &marks)
 }
 
+// What is left of the budget after evaluating a rule at `versions` versions, and for the clients of
+// its `when`s; none if that isn't enough.
+fn budget_after(evaluated: &EvaluatedRule<'_>, versions: u64, budget: u64) -> Option<u64>
+    ensures { result ≡ specs.budget_by versions (rule_of evaluated.now) budget }
+{
+    let Some(left) = remaining_budget(versions, budget, evaluated.statements) else {
+        return None;
+    };
+    let clients = client_evaluations(evaluated).unwrap_or(0);
+    remaining_budget(clients, left, evaluated.statements)
+}
+
 // Warnings that need evaluation, if the budget is enough.
 fn push_evaluated_warnings(
     alloc: Global,
@@ -46,7 +59,7 @@ fn push_evaluated_warnings(
 {
     let spots = spots_of(alloc, evaluated.statements)?;
     let versions = (spots.len() + evaluated.releases.len()) as u64;
-    match remaining_budget(versions, budget, evaluated.statements) {
+    match budget_after(evaluated, versions, budget) {
         Some(left) => {
             push_answer_warnings(alloc, warnings, app, evaluated, spots.as_slice())?;
             Ok(left)
@@ -76,9 +89,9 @@ fn push_evaluated_warnings(
 ///
 /// A rule costs one unit of the budget for each `count`, each step of its conditions, and each
 /// evaluation. It is evaluated at the lowest version, at each version that it names, just above
-/// each, and for each release. A rule that would exceed the budget isn't evaluated and costs
-/// nothing, and the warning says so. Its tests are still read. The clients of `when`s take nothing
-/// from the budget; a rule for which they would cost more than 1000 units is evaluated without them.
+/// each, and for each release; also for the clients of its `when`s with each release, unless these
+/// would cost more than 1000 units. A rule that would exceed the budget isn't evaluated and costs
+/// nothing, and the warning says so. Its tests are still read.
 // open: whether an allocation fails; that a rule with such a `when` or release has its warning: one
 // may be missing.
 pub fn push_rule_warnings(
