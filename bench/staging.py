@@ -470,7 +470,8 @@ def drifts(folder):
         other.write("editor.rule", RULE % 6500)
         it.run(f"rollout load {other.folder}/current.toml --operator 8081")
         said = it.stage("raise editor 7000 --operator 8081")
-        if "1 stage: server at 18098 serves what no step left, loaded " not in said:
+        today = time.strftime("%Y-%m-%dT", time.gmtime())
+        if f"1 stage: server at 18098 serves what no step left, loaded {today}" not in said:
             return f"of no step: {said}"
 
 
@@ -494,7 +495,9 @@ def resumes(folder):
             return f"not offered: {said}"
         if "1 stage: editor isn't halted by a step" not in (said := alone(it, "resume editor")):
             return f"resume again: {said}"
-        it.run("rollout halt editor --operator 8081 2>&1")
+        said = it.run("rollout halt editor --operator 8081 2>&1")
+        if "unless it has --counters: rollout stage halt editor keeps it\n" not in said:
+            return f"a halt without its note: {said}"
         said = it.stage("raise editor 200 --operator 8081")
         if NOTHING not in (said := it.run(ASKED, asked % "editor")):
             return f"a server's halt is lifted: {said}"

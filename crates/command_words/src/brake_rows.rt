@@ -12,7 +12,8 @@ pub const HALT: CommandRow<Verb> = CommandRow {
     name: "halt",
     about: "Let a server offer no release of an app; prints `generation G`",
     end: Some(
-        "The app stays halted whatever is loaded, until it is resumed or the server restarts.\n\
+        "The app stays halted whatever is loaded, until it is resumed. Without --counters a\n\
+         restart of the server lifts the halt.\n\
          Example: rollout halt editor --operator 8081\n\
          See docs/PROGRAM.md, \"Halting at a server\"",
     ),

@@ -81,8 +81,8 @@ pub const SERVE: CommandRow<Verb> = CommandRow {
         CommandArgument::Text(
             "counters",
             "FILE",
-            "Open with the counters of this file, and write them to it\n\
-             at the end; if it isn't there, it is made, and all are 0",
+            "Open with the counters and halts of this file, and keep them\n\
+             in it; if it isn't there, it is made, and all are 0",
         ),
         CommandArgument::OptionalNumber(
             "wait-counters",
@@ -94,7 +94,7 @@ pub const SERVE: CommandRow<Verb> = CommandRow {
         CommandArgument::Flag(
             "log",
             "Write the log to standard error: a line of JSON for each\n\
-             connection, start, load, stop and counter",
+             connection, start, load, halt, stop and counter",
         ),
         VERBOSE,
     ],

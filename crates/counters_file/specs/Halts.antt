@@ -1,6 +1,6 @@
 -- The lines of halted apps. Each names an appid, in which blanks, control characters, `%` and what
--- is outside ASCII are escaped as in a URL, by `%` and two digits. No appid has a line feed, since
--- an operator names an app in a line.
+-- is outside ASCII are escaped as in a URL, by `%` and two digits. None has a line feed, since an
+-- operator names an app in a line.
 use Rattle.std.specs.Prelude.{ℕ, ◌+◌, ◌-◌, ◌^◌, ◌<◌, List, ◌++◌, take, drop, codes, All}
 use Rattle.std.specs.Prelude.{Option, Some, None, if◌then◌else◌, Bool, ◌&&◌, not, IsTrue}
 use Rattle.std.specs.List.{list_any}

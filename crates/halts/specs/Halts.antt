@@ -62,7 +62,7 @@ abbrev pub KeepsApps : Type 0
 KeepsApps = (rules : Rules) (halted : List (List ℕ))
     → appids_of (served halted rules).apps ≡ appids_of rules.apps
 
--- no program knows another array
+-- the programs know no further array
 abbrev pub KeepsArrays : Type 0
 KeepsArrays = (rules : Rules) (halted : List (List ℕ)) (arrays : List CellArray)
     → KnowsOnly arrays rules → KnowsOnly arrays (served halted rules)

@@ -1,4 +1,4 @@
-//! The appids of the halted apps, each once, the one that was halted last first.
+//! The appids of the halted apps, the one that was halted last first.
 
 ghost use Rattle.std.specs.Prelude.{◌≡◌, [], ◌∷◌, ◌++◌, IfOk, OnOk, map, string_bytes};
 ghost use Rattle.halts.specs.Halts.{halting, is_named, without};

@@ -23,8 +23,8 @@ const LOOK_MILLIS: u64 = 100;
 const LOOK_SECONDS: u64 = 1;
 
 /// The lines of a server's reply, at most 1 MiB, if the request was done; an empty reply to `cells`
-/// means that all counters are 0. It waits ten minutes for each piece of the reply; after B5 a load
-/// or a stop may still have been done.
+/// means that all counters are 0. It waits ten minutes for each piece of the reply; after B5 the
+/// request may still have been done.
 // open: that a server replies, and which of B4 and B5 is returned: tests. Nothing tests the ten
 // minutes.
 pub fn ask_server<R>(
