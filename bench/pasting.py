@@ -17,9 +17,13 @@ HOST_COMMANDS = [
 ]
 # Names that the blocks use, and that the folder already has.
 TAKEN = ["next", "served", "current.toml.new", "request.json", "editor-a.toml", "rollout.svg"]
-ARRAY = '\n[[array]]\nname = "first"\nwidth = 64\nlength = 1\nquota = 1000\n'
+QUOTA = '\n[[array]]\nname = "{}"\nwidth = 64\nlength = 1\nquota = 1000\n'
+ARRAYS = QUOTA.format("first") + QUOTA.format("other")
 TAKES = "when version < 2.1 and bucket(7319492859585677826) < 500 and take(first, 0) offer 1;\n"
-SERVED = ("current.toml", "editor.rule")
+# A second app, which no block names.
+VIEWER = '\n[[app]]\nappid = "viewer"\nrule = "viewer.rule"\n'
+NONE = "otherwise none;\n"
+SERVED = ("current.toml", "editor.rule", "viewer.rule")
 COMMAND = re.compile(r"^(?:\w+=\$\(|(?:rollout|cd|cp|tar|systemctl|sha256sum|sed|for|grep|jq) )")
 EDITED = re.compile(r"was edited|refused")
 
@@ -35,12 +39,13 @@ def sections(page):
 
 
 class Shell:
-    """A day whose app has a quota, with commands of the host that end with a status."""
+    """A day with two apps, the first with a quota, and commands of the host that end with a
+    status."""
 
     def __init__(self, folder, program):
         self.day = Day(folder, program)
-        self.manifest = (folder / "current.toml").read_text().replace("\n\n", ARRAY + "\n", 1)
-        self.rule = TAKES + "otherwise none;\n"
+        manifest = (folder / "current.toml").read_text().replace("\n\n", ARRAYS + "\n", 1)
+        self.first = [manifest + VIEWER, TAKES + NONE, NONE]
         (folder / "log").mkdir()
         self.put_back()
 
@@ -56,7 +61,7 @@ class Shell:
         (folder / "server.log").touch()
         (folder / "request.json").write_text("{}\n")
         (folder / "editor-a.toml").write_text("\n")
-        for name, text in zip(SERVED, (self.manifest, self.rule)):
+        for name, text in zip(SERVED, self.first):
             (folder / name).write_text(text)
 
     def commands(self, status):
@@ -91,18 +96,29 @@ def wrong_without_room(shell, title, blocks):
         if re.search(r"stage (halt|raise) ", it) and "mktemp" not in it:
             continue
         said = shell.paste([it], TMPDIR=str(shell.day.folder / "none"))
-        if shell.served() != [shell.manifest, shell.rule]:
+        if shell.served() != shell.first:
             return f"{title}: without a new folder this changes what is served: {it}{said}"
 
 
 def wrong_twice(shell, title, blocks):
     shell.commands(0)
     said = shell.paste([*blocks, *blocks])
-    if shell.served() == [shell.manifest, shell.rule]:
+    if shell.served() == shell.first:
         return
     status = shell.day.run("rollout stage status --operator 8081 || :")
     if "step" not in status or EDITED.search(status):
         return f"{title}: after it {status} {said}"
+
+
+def wrong_put(shell, title, block):
+    """What a block makes of the served files can be put in place, with the app that it leaves."""
+    if "stage put" not in block:
+        block = f"{block.rstrip()} && rollout stage put current.toml --anyway --operator 8081"
+    said = shell.day.run(block.replace(" --dry-run", ""))
+    manifest, _, viewer = shell.served()
+    kept = manifest.endswith(VIEWER) and QUOTA.format("other") in manifest and viewer == NONE
+    if not kept or not said.endswith(f"server at {PORTS['8081']}: generation 2\n"):
+        return f"{title}: put: {said}{manifest}"
 
 
 def pasted(folder, program=BUILT, only=""):
@@ -122,6 +138,13 @@ def pasted(folder, program=BUILT, only=""):
                     (shell.day.folder / "bin" / it).unlink()
                 if wrong:
                     return wrong
+                shell.put_back()
+            for it in blocks:
+                if 'cp -r /etc/rollout' not in it:
+                    continue
+                with shell.day.served():
+                    if wrong := wrong_put(shell, title, it):
+                        return wrong
                 shell.put_back()
     print(f"    {count} blocks")
 
