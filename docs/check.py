@@ -12,14 +12,16 @@ few long sentences. Each wrong body can be put in place: what it replaces is in 
 Each crate of a line of crates.txt is named there, and `edges.txt` has a reason for each that is
 named for little and drags much.
 Each file of rows is run, and its rows are counted anew; the examples that rows read are those of
-`examples`. The page of help that the launcher prints is that of the programs, and has each of their
-commands, as has each list of the commands of one program. CONTRIBUTING's recipes name each file
-that their searches find, ERRORS has each code of the sources, and other pages each option, each
-warning, and each member of requests, manifests and the log. Tests that pages name are there.
+`examples`, and the transcripts of pages are rows. The page of help that the launcher prints is that
+of the programs, and has each of their commands, as has each list of the commands of one program.
+CONTRIBUTING's recipes name each file that their searches find, ERRORS has each code of the sources,
+and other pages each option, each warning, and each member of requests, manifests and the log. Tests
+that pages name are there.
 
 usage: docs/check.py [--write | --reference FOLDER | --long | --words CRATE]
 
---write writes the layers and the rows of crates, OPEN, and PROOF's quotes and figures anew.
+--write writes the layers and the rows of crates, OPEN, PROOF's quotes and figures, and the copies
+and rows of `examples` and transcripts anew.
 --reference writes the reference into a FOLDER: a page for each crate, with its contracts and
 definitions. The pages' links to sources work in the folder docs/reference, which git ignores.
 --long prints the sentences of over 35 words of each page by hand, --words the words of this house
@@ -30,7 +32,7 @@ from pathlib import Path
 
 from checking import (
     codes, commands, crates_page, edges, examples, left_open, members, plain, quotes, recipes, reference,
-    rows, weight
+    rows, transcripts, weight
 )
 from checking.edits import lost_edits
 from checking.exports import lost_comments
@@ -55,6 +57,7 @@ def write():
     plain.lower()
     weight.lower()
     examples.copy()
+    transcripts.write()
 
 
 def faults():
@@ -80,6 +83,7 @@ def faults():
     yield from weight.too_heavy()
     yield from edges.faults()
     yield from examples.other_copies()
+    yield from transcripts.other_rows()
     yield from rows.left_out()
     yield from rows.lost_tests()
     yield from rows.false_counts()

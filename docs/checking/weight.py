@@ -1,6 +1,6 @@
 """How many words each page by hand has. `weight.txt` bounds them: whoever makes a page longer than
-that raises the bound there, knowingly. Parts that scripts write, or that commands print, don't
-count."""
+that raises the bound there, knowingly, and shortens others if all together have too many. Parts that
+scripts write, or that commands print, don't count."""
 import re
 from pathlib import Path
 
@@ -9,12 +9,14 @@ from checking.places import CRATES_PAGE, DOCS, OPEN, PROOF, ROOT, pages
 from checking.quotes import QUOTE, SIZES
 
 BOUNDS = Path(__file__).with_suffix(".txt")
+# All pages together.
+MOST = 64000
 # What a script writes of a page: the layers and the line of each crate, quotes and sizes.
 WRITTEN = {
     CRATES_PAGE: [PICTURE, TABLE],
     PROOF: [QUOTE, SIZES],
 }
-# What commands print: bench/walkthrough, bench/transcripts and others compare it.
+# What commands print: transcripts.rows, bench/walkthrough and others compare it.
 PRINTED = re.compile(r"^```\n\$ .*?^```$", re.M | re.S)
 
 
@@ -43,7 +45,9 @@ def lower():
 
 
 def too_heavy():
-    allowed = bounds()
-    for page, count in words().items():
+    allowed, have = bounds(), words()
+    if (total := sum(have.values())) > MOST:
+        yield f"pages: {total} words by hand, which are more than {MOST}"
+    for page, count in have.items():
         if count > allowed.get(page, 0):
             yield f"{page}: {count} words, which are more than {allowed.get(page, 0)} (weight.txt)"
