@@ -16,6 +16,8 @@ from operating import BUILT, PORTS, Day
 QUOTAS = [1, 2, 7, 1000, 9223372036854775807]
 # After SIGTERM: the seconds that rollout.service adds up, with some more.
 STOPPING = re.compile(r"^TimeoutStopSec=(\d+)$", re.M)
+# Quotas that can't be divided, each in place of its line.
+ODD = ["  quota = 7", "quota=7", "quota = 1_000", "array = [{ name = \"x\", quota = 7 }]"]
 ARRAY = '\n[[array]]\nname = "first"\nwidth = 64\nlength = 1\nquota = {}   # of all pods\n'
 
 
@@ -56,6 +58,12 @@ def wrong_shares(day):
                 return f"{quota} in {pods} pods: {shares}"
     if in_pod(day, 1, 2, "first", "first") != (0, "") or share(day, 0, 1) != QUOTAS[-1]:
         return "a pod with a manifest begins anew"
+    (day.folder / "current.toml").unlink()
+    for it in ODD:
+        (first / "current.toml").write_text(re.sub("quota = .*", it, whole))
+        status, said = in_pod(day, 0, 2, "first", "first")
+        if status != 1 or it not in said or (day.folder / "current.toml").exists():
+            return f"{it}: {status} {said}"
     (day.folder / "current.toml").write_text(manifest)
 
 

@@ -8,17 +8,25 @@
 set -eu
 place=/etc/rollout
 
-# The manifest with this pod's share of each line `quota = N`; a quota that is written otherwise, as in
-# `{ .., quota = N }`, stays whole. A quota of fewer than REPLICAS leaves a pod with 0, which is
-# refused.
+# A quota that is written otherwise can't be divided.
+odd() {
+    echo "pod.sh: write this as a line quota = N, from its first column on: $1" >&2
+    exit 1
+}
+
+# The manifest with this pod's share of each line `quota = N`. A quota of fewer than REPLICAS leaves a
+# pod with 0, which is refused.
 share() {
     number=${HOSTNAME##*-}
-    while IFS= read -r line; do
+    while IFS= read -r line || [ "$line" ]; do
         case $line in
         "quota = "[0-9]*)
-            all=${line#quota = } && all=${all%%[!0-9]*}
+            all=${line#quota = } && rest=${all#"${all%%[!0-9]*}"} && all=${all%%[!0-9]*}
+            case $rest in "" | [[:blank:]]* | "#"*) ;; *) odd "$line" ;; esac
             line="quota = $((all / REPLICAS + (number < all % REPLICAS)))"
             ;;
+        "#"*) ;;
+        *quota*=*) odd "$line" ;;
         esac
         printf '%s\n' "$line"
     done <"$1"
@@ -30,7 +38,8 @@ first)
     for it in "$2"/*; do
         [ "${it##*/}" = current.toml ] || cp "$it" "$place"
     done
-    share "$2/current.toml" >"$place/current.toml"
+    share "$2/current.toml" >"$place/current.toml.new"
+    mv "$place/current.toml.new" "$place/current.toml"
     ;;
 put)
     new=$(mktemp -d)
