@@ -23,7 +23,7 @@ pub enum ArgumentFault {
     Allow,
     Since,
     Until,
-    /// `--state` is given with a moment or a picture.
+    /// `--state` is given with a moment.
     State,
     Cells,
     /// A port among several.
@@ -73,7 +73,7 @@ const SINCE: &str = "'--since' wants a time by RFC 3339, or how long ago, as 90s
 
 const UNTIL: &str = "'--until' wants a time by RFC 3339, or how long ago, as 90s, 10m, 2h or 3d";
 
-const STATE: &str = "'--state' can't be given with '--since', '--until' or '--svg'";
+const STATE: &str = "'--state' can't be given with '--since' or '--until'";
 
 const CELLS: &str = "'--cells' wants NAME[INDEX]=VALUE, as early[0]=283";
 
