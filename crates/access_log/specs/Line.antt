@@ -1,7 +1,7 @@
 -- What a line of the log says of an event, and its text: a JSON object, and a line feed.
 use Rattle.std.specs.Prelude.{◌≡◌, ℕ, List, [], ◌∷◌, ◌++◌, codes, length}
 use Rattle.std.specs.Prelude.{nat_lt, if◌then◌else◌, Bool, false}
-use Rattle.std.specs.Prelude.{Option, option_copied, ⊤}
+use Rattle.std.specs.Prelude.{Option, None, option_copied, ⊤}
 use Rattle.std.specs.Borrow.{Bor}
 use Rattle.std.specs.Str.{NoCharPasses}
 use Rattle.json.specs.Token.{Token, begin_object, end_object}
@@ -88,6 +88,7 @@ connection_members connection =
     ++ text_member (codes "peer") connection.peer.now
     ++ optional_member (codes "forwarded") (option_copied connection.forwarded)
     ++ id_member connection.lacks_id
+    ++ optional_member (codes "request_id") (option_copied connection.request_id)
     ++ reply_members connection
     ++ apps_members connection.apps.now
 
@@ -167,8 +168,8 @@ abbrev pub line_with : LineHeader → List Token → List ℕ
 line_with header members = with_line_feed (object_with header members)
 
 -- What replaces a line of more than 4096 bytes. A server's connections never have such a line:
--- their apps have at most 3641 bytes, and the rest at most 455. No clause says so; a row of
--- test_access_log has the longest.
+-- their apps have at most 3641 bytes, and the rest, without `request_id`, at most 455. No clause
+-- says so; a row of test_access_log has the longest.
 abbrev pub too_long_members : ℕ → List Token
 too_long_members bytes = kind_member (codes "too-long") ++ number_member (codes "bytes") bytes
 
@@ -177,9 +178,22 @@ abbrev pub line_or_length : LineHeader → List ℕ → List ℕ
 line_or_length header whole =
     if nat_lt 4096 (length whole) then line_with header (too_long_members (length whole)) else whole
 
--- the line of an event
+-- a connection without the prefix of its request's id
+abbrev pub without_request_id : LogEvent → LogEvent
+without_request_id (log.Connection connection) =
+    log.Connection (record connection { request_id = None })
+without_request_id e = e
+
+-- a line of more than 4096 bytes is replaced by a shorter one
+abbrev pub line_or_shorter : LineHeader → (whole shorter : List ℕ) → List ℕ
+line_or_shorter header whole shorter =
+    if nat_lt 4096 (length whole) then line_or_length header shorter else whole
+
+-- the line of an event: without the request's id if it is too long otherwise
 abbrev pub event_line : LineHeader → LogEvent → List ℕ
-event_line header e = line_or_length header (line_with header (members_of e))
+event_line header e =
+    line_or_shorter header (line_with header (members_of e))
+    (line_with header (members_of (without_request_id e)))
 
 -- all apps of a connection are logged, or at least eleven, if they are as brief as a server makes
 -- them

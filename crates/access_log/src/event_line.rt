@@ -7,7 +7,7 @@ ghost use Rattle.access_log.specs.Tokens.{AddsMembers};
 
 use crate::events::{write_kind, write_members};
 use crate::line_buffer::LineBuffer;
-use crate::log_event::{LineHeader, LogEvent};
+use crate::log_event::{Connection, LineHeader, LogEvent};
 use crate::member::write_number;
 use crate::text_size::LINE_LIMIT;
 use crate::utc::Utc;
@@ -45,6 +45,39 @@ pub fn log_line_in(
     ensures limit { OnOk result (length room.new ≤ 4096) }
     ensures whole { OnOk result (specs.IsOneLine room.new) }
     ensures apps { specs.ListsApps event.now }
+{
+    whole_line(room, header, event)?;
+    if room.bytes().len() > LINE_LIMIT {
+        return line_or_length(room, header, &without_request_id(event));
+    }
+    Ok(())
+}
+
+// The event, without the prefix of a request's id.
+fn without_request_id<'x>(event: &LogEvent<'x>) -> LogEvent<'x>
+    ensures { result ≡ specs.without_request_id event.now }
+{
+    match event {
+        LogEvent::Connection(connection) => LogEvent::Connection(Connection {
+            request_id: None,
+            ..*connection
+        }),
+        _ => *event,
+    }
+}
+
+// The line of an event, or what replaces it if it is too long.
+#[cold]
+#[inline(never)]
+fn line_or_length(
+    room: &mut LineBuffer,
+    header: &LineHeader,
+    event: &LogEvent<'_>,
+) -> Result<(), AllocError>
+    ensures text { OnOk result (room.new ≡ specs.line_or_length header.now
+        (specs.line_with header.now (specs.members_of event.now))) }
+    ensures limit { OnOk result (length room.new ≤ 4096) }
+    ensures whole { OnOk result (specs.IsOneLine room.new) }
 {
     whole_line(room, header, event)?;
     let bytes = room.bytes().len();

@@ -97,6 +97,7 @@ fn write_connection(line: &mut LineBuffer, connection: &Connection<'_>) -> Resul
     write_text(line, "peer", connection.peer)?;
     write_optional(line, "forwarded", connection.forwarded)?;
     write_id(line, connection.lacks_id)?;
+    write_optional(line, "request_id", connection.request_id)?;
     write_reply(line, connection)?;
     write_apps(line, connection.apps)?;
     Ok(())

@@ -17,6 +17,9 @@ const BRIEF_LIMIT: usize = 64;
 /// The most bytes of a further member's text in a line, escapes included.
 const SHORT_LIMIT: usize = 32;
 
+/// The most bytes of a request's id in a line, escapes included.
+const ID_LIMIT: usize = 16;
+
 /// The first bytes of a text, and how many bytes the whole text has.
 #[derive(Clone, Copy)]
 pub struct Excerpt<'a> {
@@ -53,6 +56,16 @@ impl<'a> Excerpt<'a> {
     {
         Excerpt {
             text: &text[..brief_end(text, SHORT_LIMIT)],
+            length: text.len() as u64,
+        }
+    }
+
+    /// As `brief`, within 16 bytes.
+    pub fn of_id(text: &'a str) -> Excerpt<'a>
+        ensures { IsBriefExcerpt 16 text.now result }
+    {
+        Excerpt {
+            text: &text[..brief_end(text, ID_LIMIT)],
             length: text.len() as u64,
         }
     }

@@ -66,6 +66,8 @@ pub struct Connection<'a> {
     pub forwarded: Option<&'a str>,
     /// Whether a request was read, and has neither a request id nor a session id.
     pub lacks_id: bool,
+    /// A prefix of the request's id, or of its session's if it has none: `Excerpt::of_id`.
+    pub request_id: Option<&'a str>,
     /// The status of the reply; 0 if there was none, or it was sent only in part.
     pub status: u16,
     /// The error that the client got, or why it got no reply.

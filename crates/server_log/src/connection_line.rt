@@ -69,6 +69,7 @@ where
     let addresses = recorded.keep_addresses(peer)?;
     let connection = Connection {
         lacks_id: recorded.lacks_id,
+        request_id: recorded.request_id(),
         status: status_of(outcome),
         generation: recorded.generation,
         bytes: recorded.bytes,
@@ -94,6 +95,7 @@ fn without_texts<'x>(refusal: Option<&'x str>, cause: Option<&'x str>) -> Connec
         peer: "",
         forwarded: None,
         lacks_id: false,
+        request_id: None,
         status: 0,
         refusal,
         cause,

@@ -9,9 +9,9 @@ use crate::app_details::AppDetails;
 use crate::app_record::{AppExtras, AppRecord, KeptExcerpt};
 use crate::kept_texts::{KeptTexts, TextPlace};
 use crate::recorder::Recorder;
+use crate::requester::{bucket_of_unknown, requester_id};
 use access_log::{Excerpt, LoggedApp};
 use answering::RequestObserver;
-use attrs::{Bucket, RequestFacts, Text, hashed_bucket};
 use hot_swap::Generation;
 use net_io::Timed;
 use omaha_json::{AppObserver, FoundApp, Request, WrittenApp};
@@ -31,6 +31,8 @@ pub struct ConnectionRecord {
     forwarded: Option<IpAddr>,
     /// Whether the request has neither a request id nor a session id.
     pub(crate) lacks_id: bool,
+    /// A prefix of the request's id, or of its session's if it has none.
+    request_id: Option<TextPlace>,
     /// How the connection failed, if it did.
     pub(crate) cause: Option<&'static str>,
     /// The number of bytes written.
@@ -64,6 +66,7 @@ impl ConnectionRecord {
             generation: 0,
             forwarded: None,
             lacks_id: false,
+            request_id: None,
             cause: None,
             bytes: 0,
             buffer: Vec::new(alloc),
@@ -82,6 +85,7 @@ impl ConnectionRecord {
         self.generation = 0;
         self.forwarded = None;
         self.lacks_id = false;
+        self.request_id = None;
         self.cause = None;
         self.bytes = 0;
         self.texts.clear();
@@ -150,6 +154,11 @@ impl ConnectionRecord {
         self.texts.at_some(addresses.forwarded)
     }
 
+    /// The prefix that is kept of the id of the request, or of its session.
+    pub(crate) fn request_id(&self) -> Option<&str> {
+        self.texts.at_some(self.request_id)
+    }
+
     /// The app for the line, if there is exactly one and it was kept.
     pub(crate) fn only_app(&self) -> Option<LoggedApp<'_>> {
         match self.apps.as_slice() {
@@ -178,13 +187,13 @@ impl ConnectionRecord {
         Ok(logged)
     }
 
-    // Keeps whether the request lacks an id, and the apps, with what was found for them.
+    // Keeps the request's id, and the apps, with what was found for them.
     fn keep(
         &mut self,
         request: &Request,
         found: &[Option<FoundApp<'_>>],
     ) -> Result<(), AllocError> {
-        self.lacks_id = lacks_id(request.facts());
+        self.keep_request_id(requester_id(request.facts()))?;
         let hashed = bucket_of_unknown(request, found);
         let platform = match &request.facts().platform {
             Some(text) => Some(KeptExcerpt::of(&mut self.texts, Excerpt::short(text.as_str()))?),
@@ -197,6 +206,15 @@ impl ConnectionRecord {
             let details = self.extras_at(place, platform);
             let recorded = AppRecord::of(&mut self.texts, app.share()?, found, hashed, details)?;
             self.apps.push(recorded)?;
+        }
+        Ok(())
+    }
+
+    // Keeps a prefix of an id, or that there is none.
+    fn keep_request_id(&mut self, id: &str) -> Result<(), AllocError> {
+        self.lacks_id = id.is_empty();
+        if !self.lacks_id {
+            self.request_id = Some(self.texts.keep(Excerpt::of_id(id).text)?);
         }
         Ok(())
     }
@@ -245,26 +263,4 @@ impl RequestObserver for ConnectionRecord {
             self.is_cut = self.is_cut || !is_kept;
         }
     }
-}
-
-// Whether a request has no id: it is absent or empty, and so is that of its session.
-fn lacks_id(request: &RequestFacts) -> bool {
-    is_empty(&request.requestid) && is_empty(&request.sessionid)
-}
-
-fn is_empty(text: &Option<Text>) -> bool {
-    match text {
-        Some(text) => text.as_str().is_empty(),
-        None => true,
-    }
-}
-
-// The hashed bucket if an app is unknown to the server; otherwise 0, since a hash takes time.
-fn bucket_of_unknown(request: &Request, found: &[Option<FoundApp<'_>>]) -> Bucket {
-    for app in found {
-        if app.is_none() {
-            return hashed_bucket(request.facts());
-        }
-    }
-    Bucket::new(0)
 }

@@ -30,6 +30,7 @@ mod log_queue;
 mod log_thread;
 mod recorder;
 mod request_line;
+mod requester;
 mod start_line;
 mod tally;
 

@@ -188,6 +188,15 @@ const EVENTS: &[(LogEvent<'static>, &str)] = &[
     ),
     (
         LogEvent::Connection(Connection {
+            request_id: Some("{D505492F-95FE\""),
+            ..ANSWERED
+        }),
+        r#""connection","peer":"127.0.0.1:41248","forwarded":"203.0.113.7",
+"request_id":"{D505492F-95FE\"","status":200,
+"generation":5,"bytes":566,"micros":68,"waited":7}"#,
+    ),
+    (
+        LogEvent::Connection(Connection {
             apps: &[NOTES],
             ..ANSWERED
         }),

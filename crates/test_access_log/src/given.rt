@@ -52,6 +52,7 @@ pub(crate) const ANSWERED: Connection<'static> = Connection {
     peer: "127.0.0.1:41248",
     forwarded: Some("203.0.113.7"),
     lacks_id: false,
+    request_id: None,
     status: 200,
     refusal: None,
     cause: None,

@@ -79,6 +79,7 @@ const LONG: Connection<'static> = Connection {
     peer: "[ffff:ffff:ffff:ffff:ffff:ffff:ffff:ffff%4294967295]:65535",
     forwarded: Some("ffff:ffff:ffff:ffff:ffff:ffff:ffff:ffff"),
     lacks_id: true,
+    request_id: None,
     status: 0,
     refusal: Some("P8 Device"),
     cause: Some("time-out"),
@@ -136,5 +137,32 @@ fn no_line_of_a_connection_is_too_long(rt: HostRuntime) -> Result<(), Fail> {
     let end = "],\"more_left_out\":27,\"left_out\":229,\"offers_left_out\":126,\
         \"unknown_left_out\":103}\n";
     assert!(rt; line.ends_with(end) && line.len() == 4095, "{line}");
+    Ok(())
+}
+
+/// The same with an id, of 16 bytes or of 15 and without a cause. The line of the first would have
+/// 4116 bytes; that of the second has 4096.
+const IDENTIFIED: Connection<'static> = Connection {
+    lacks_id: false,
+    request_id: Some("{D505492F-95FE-4"),
+    ..LONG
+};
+
+const UNCAUSED: Connection<'static> = Connection {
+    request_id: Some("{D505492F-95FE-"),
+    cause: None,
+    ..IDENTIFIED
+};
+
+#[test]
+fn an_id_that_fits_is_in_the_line(rt: HostRuntime) -> Result<(), Fail> {
+    let line = line_of(rt.alloc(), IDENTIFIED, LONGEST)?;
+    assert!(rt;
+        !line.contains("request_id") && line.len() == 4084,
+        "{line}"
+    );
+    let line = line_of(rt.alloc(), UNCAUSED, LONGEST)?;
+    let id = ",\"request_id\":\"{D505492F-95FE-\",\"refusal\":";
+    assert!(rt; line.contains(id) && line.len() == 4096, "{line}");
     Ok(())
 }

@@ -47,6 +47,7 @@ pub(crate) const DROPPED: Connection<'static> = Connection {
     peer: "[fe80::1%2]:80",
     forwarded: None,
     lacks_id: false,
+    request_id: None,
     status: 0,
     refusal: Some("P8 Device"),
     cause: Some("time-out"),

@@ -79,10 +79,11 @@ pub(crate) const LINES: &[Line] = &[
     },
     Line {
         timed: STOPPED,
-        request: "Content-Length: 86\r\n\r\n\
-            {\"request\":{\"protocol\":\"3.1\",\"requestid\":\"r\",\
+        request: "Content-Length: 123\r\n\r\n\
+            {\"request\":{\"protocol\":\"3.1\",\
+            \"requestid\":\"{D505492F-95FE-4F74-8253-AA75ED1E4A5A}\",\
             \"app\":[{\"appid\":\"x\",\"cohort\":\"b:0007\"}]}}",
-        outcome: r#""status":200,"generation":1,"#,
+        outcome: r#""request_id":"{D505492F-95FE-4","status":200,"generation":1,"#,
         apps: r#","apps":[{"appid":"x","bucket":7,"named":true}]"#,
     },
     Line {
@@ -90,7 +91,7 @@ pub(crate) const LINES: &[Line] = &[
         request: "Content-Length: 86\r\n\r\n\
             {\"request\":{\"protocol\":\"3.1\",\"sessionid\":\"s\",\
             \"app\":[{\"appid\":\"x\",\"cohort\":\"b:0008\"}]}}",
-        outcome: r#""status":200,"generation":1,"#,
+        outcome: r#""request_id":"s","status":200,"generation":1,"#,
         apps: r#","apps":[{"appid":"x","bucket":8,"named":true}]"#,
     },
     Line {
