@@ -24,7 +24,7 @@ use Rattle.why_log.specs.declared.finding.FoundLines.{FoundLines}
 use Rattle.why_log.specs.declared.machine.Machine.{Machine}
 
 abbrev pub machine_of : WhyArgs → Machine
-machine_of args = record { address = args.address; bucket = args.bucket }
+machine_of args = record { address = args.address; bucket = args.bucket; id = args.id }
 
 -- lines of that machine
 abbrev pub AreLinesOf : WhyArgs → FoundLines → Type 0

@@ -87,6 +87,7 @@ where
     let machine = Machine {
         address: args.address,
         bucket: args.bucket,
+        id: args.id,
     };
     let most = if args.all { usize::MAX } else { FEW };
     find_lines(rt, args.logs.as_slice(), &machine, most)

@@ -61,8 +61,8 @@ trace = verb_rules (codes "trace") verb.Trace (input ∷ releases ∷ arrays ∷
 
 abbrev pub why : VerbRules ToolVerb
 why = verb_rules (codes "why") verb.Why
-    (manifest ∷ files (codes "LOG") ∷ option (codes "address") ∷ bucket ∷ flag (codes "all")
-    ∷ repeated (codes "cells") ∷ operator_port false ∷ [])
+    (manifest ∷ files (codes "LOG") ∷ option (codes "address") ∷ bucket ∷ option (codes "id")
+    ∷ flag (codes "all") ∷ repeated (codes "cells") ∷ operator_port false ∷ [])
 
 -- ---- all of them
 

@@ -13,6 +13,7 @@ pub record HasWhy (rows : List Row) (args : WhyArgs) : Type 0 where
   pub address : option_copied args.address ≡ first_of (codes "address") rows
   pub bucket : IfSome args.bucket (HasShort (codes "bucket") rows)
   pub no_bucket : IfNone args.bucket (LacksShort (codes "bucket") rows)
+  pub id : option_copied args.id ≡ first_of (codes "id") rows
   pub all : HasFlag (codes "all") rows args.all
   pub cells : HasCells rows args.cells.items
   pub port : IfSome args.operator (HasShort (codes "operator") rows)

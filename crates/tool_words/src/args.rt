@@ -126,6 +126,8 @@ pub struct WhyArgs<'a> {
     pub address: Option<&'a str>,
     /// The bucket of the machine, at most 9999.
     pub bucket: Option<u16>,
+    /// The id of a request or of its session, or the first characters of it.
+    pub id: Option<&'a str>,
     /// Whether all its requests are explained, and not only the last three.
     pub all: bool,
     pub cells: Vec<CellAssignment<'a>>,

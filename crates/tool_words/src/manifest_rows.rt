@@ -190,6 +190,11 @@ pub(crate) const WHY: CommandRow<ToolVerb> = CommandRow {
             NumberLimits(0, 9999),
             "Bucket of the machine, 0 to 9999: 56 for the cohort b:0056",
         ),
+        CommandArgument::Text(
+            "id",
+            "ID",
+            "requestid of a request, or else its sessionid, whole or its first characters",
+        ),
         CommandArgument::Flag("all", "Explain all its requests, not only the last three"),
         CELLS,
         SERVER,

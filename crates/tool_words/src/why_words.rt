@@ -30,6 +30,7 @@ pub(crate) fn read_why<'a>(
         logs,
         address: optional_text(found, "address"),
         bucket: optional_number(found, "bucket"),
+        id: optional_text(found, "id"),
         all: flag_of(found, "all"),
         cells,
         operator: optional_number(found, "operator"),

@@ -57,10 +57,22 @@ abbrev pub has_bucket : Option ℕ → Data → Bool
 has_bucket (Some bucket) line = any_listed bucket (list_in (codes "apps") line)
 has_bucket None line = true
 
--- ---- both
+-- ---- the id
 
--- a connection with a time, from this address and with an app in this bucket
+-- an id begins with what a line has of one, or the other way round
+abbrev pub is_id : (id : List ℕ) → Option (List ℕ) → Bool
+is_id id (Some logged) = starts_with nat_eq id logged || starts_with nat_eq logged id
+is_id id None = false
+
+abbrev pub has_id : Option (List ℕ) → Data → Bool
+has_id (Some id) line = is_id id (text_in (codes "request_id") line)
+has_id None line = true
+
+-- ---- all of them
+
+-- a connection with a time, from this address, with an app in this bucket, and with this id
 abbrev pub is_of : Machine → Data → Bool
 is_of machine line =
     is_connection line && is_some (moment_in line)
     && has_address (option_copied machine.address) line && has_bucket machine.bucket line
+    && has_id (option_copied machine.id) line

@@ -47,7 +47,7 @@ facts_in appid bucket app = record {
   event = is_sent (codes "event") (codes "event_left_out") app;
 }
 
--- no line has the id of a request or of a session
+-- no line has the whole id of a request or of a session
 abbrev pub request_facts_in : Data → RequestFacts
 request_facts_in app =
     record { requestid = None; sessionid = None; platform = text_in (codes "platform") app }

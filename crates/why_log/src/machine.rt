@@ -9,13 +9,15 @@ use crate::line_request::moment_in;
 use report::{list_in, number_in, text_in};
 use serde_json::Value;
 
-/// A machine, by what a log has of it. Without both, it is every machine.
+/// A machine, by what a log has of it. Without any, it is every machine.
 #[derive(Clone, Copy)]
 pub struct Machine<'a> {
     /// The address that the proxy named, or without one that of the connection, as a log has it.
     pub address: Option<&'a str>,
     /// The bucket of one of its apps.
     pub bucket: Option<u16>,
+    /// The id of a request or of its session, or the first characters of it.
+    pub id: Option<&'a str>,
 }
 
 impl<'a> Machine<'a> {
@@ -27,6 +29,7 @@ impl<'a> Machine<'a> {
             && moment_in(line).is_some()
             && has_address(self.address, line)
             && has_bucket(self.bucket, line)
+            && has_id(self.id, line)
     }
 }
 
@@ -116,4 +119,24 @@ fn is_in(bucket: u16, app: &Value) -> bool
         Some(number) => number == bucket as u64,
         None => false,
     }
+}
+
+fn has_id(id: Option<&str>, line: &Value) -> bool
+    ensures { result ≡ specs.has_id (option_copied id.entry) (view line.now) }
+{
+    match id {
+        Some(id) => is_id(id, text_in(line, "request_id")),
+        None => true,
+    }
+}
+
+// Whether an id begins with what a line has of one, or the other way round.
+fn is_id(id: &str, logged: Option<&str>) -> bool
+    ensures { result ≡ specs.is_id id.now (option_copied logged.entry) }
+{
+    let Some(logged) = logged else {
+        return false;
+    };
+    let (id, logged) = (id.as_bytes(), logged.as_bytes());
+    id.starts_with(logged) || logged.starts_with(id)
 }

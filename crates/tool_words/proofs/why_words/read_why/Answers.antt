@@ -21,6 +21,7 @@ returns-clause-made c = record {
   address = c.optional_text.ensures;
   bucket = c.optional_number.ensures.given;
   no_bucket = c.optional_number.ensures.lacking;
+  id = c.optional_text-2.ensures;
   all = c.flag_of.ensures;
   cells = c.in_ok-cells.ensures.given;
   port = c.optional_number-2.ensures.given;
