@@ -1,8 +1,7 @@
 -- What a step leaves, and that its changes leave the same.
-use Rattle.std.proofs.Common.{◌≡◌, ◌∙◌, ap, refl, sym, subst, ℕ, List, [], ◌∷◌}
+use Rattle.std.proofs.Common.{◌≡◌, ◌∙◌, ap, refl, sym, ℕ, List, [], ◌∷◌}
 use Rattle.std.proofs.Common.{Bool, true, false, true≢false, cond, length, take_all, arith}
-use Rattle.std.specs.Prelude.{Option, Some, None, filter, find, not, option_map, take, ◌&&◌}
-use Rattle.std.specs.List.{list_any}
+use Rattle.std.specs.Prelude.{Option, Some, None, filter, find, not, option_map}
 use Rattle.std.specs.Str.{bytes_eq}
 use Rattle.std.proofs.lemmas.List.Elements.{All-head, All-tail}
 use Rattle.std.proofs.lemmas.Slice.Eq.{bytes_eq-Decides}

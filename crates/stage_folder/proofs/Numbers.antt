@@ -1,8 +1,8 @@
 -- A number that is above those of all records.
 use Rattle.std.proofs.Common.{◌≡◌, ◌≤◌, ◌<◌, ℕ, List, [], ◌∷◌, refl, sym, subst, arith}
-use Rattle.std.specs.Prelude.{All, Contains, Option, Some, None, IfSome, IsSome}
+use Rattle.std.specs.Prelude.{All, Option, Some, None, IfSome, IsSome}
 use Rattle.std.proofs.lemmas.List.Elements.{All-cons, All-contains, All-nil}
-use Rattle.stage_folder.specs.Folders.{GivesNumbers, IsFree, KnownRecords, Records}
+use Rattle.stage_folder.specs.Folders.{GivesNumbers, IsFree, KnownRecords}
 
 -- ---- one number after the other
 

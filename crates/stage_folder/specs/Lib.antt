@@ -1,3 +1,4 @@
 pub mod Folders
+pub mod Names
 pub mod Steps
 pub mod Recorded

@@ -22,7 +22,7 @@ pub enum FolderFault {
     NoRecord(u32),
     /// Two files of a step have one name, or its record doesn't read back as this step.
     NotRecorded,
-    /// A name leads out of the folder, or into `.stage`.
+    /// A name has an empty part between slashes or a part `..`, or leads into `.stage`.
     Outside,
     /// The file, or a folder before it, is a symbolic link.
     Link,
@@ -112,7 +112,9 @@ fn sentence(fault: FolderFault) -> &'static str {
             ".stage isn't a folder that only you may open: give it to yourself, with mode 700"
         }
         FolderFault::NotRecorded => "the step can't be recorded: name each file once, in UTF-8",
-        FolderFault::Outside => "the name leads out of the folder: give the file a name inside it",
+        FolderFault::Outside => {
+            "the name has .. in it, or leads out of the folder: give the file a name inside it"
+        }
         FolderFault::Link => "there is a symbolic link on the way: put the file itself there",
         FolderFault::NotRegular => "it is no regular file: put one there, or give another name",
         FolderFault::TooLong => "it has more than 16 MiB: make it shorter",

@@ -43,7 +43,8 @@ fn change(rt: &HostRuntime) -> Result<bool, FolderFault> {
     Ok(locked)
 }
 
-const OUTSIDE: &str = "the name leads out of the folder: give the file a name inside it";
+const OUTSIDE: &str =
+    "the name has .. in it, or leads out of the folder: give the file a name inside it";
 
 const LINK: &str = "there is a symbolic link on the way: put the file itself there";
 
@@ -67,6 +68,7 @@ const NAMES: &[(&str, &str)] = &[
     ("./.stage/1.json", OUTSIDE),
     ("through//new", OUTSIDE),
     ("folder/..", OUTSIDE),
+    ("folder/../a", OUTSIDE),
     ("../outside", OUTSIDE),
     ("/etc/passwd", OUTSIDE),
     (".stage/1.json", OUTSIDE),
