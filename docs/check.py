@@ -14,9 +14,9 @@ named for little and drags much.
 Each file of rows is run, and its rows are counted anew; the examples that rows read are those of
 `examples`, and the transcripts of pages are rows. The page of help that the launcher prints is that
 of the programs, and has each of their commands, as has each list of the commands of one program.
-CONTRIBUTING's recipes name each file that their searches find, ERRORS has each code of the sources,
-and other pages each option, each warning, and each member of requests, manifests and the log. Tests
-that pages name are there.
+CONTRIBUTING's recipes name each file that their searches find, and its exercise fits. ERRORS has
+each code of the sources, and other pages each option, each warning, and each member of requests,
+manifests and the log. Tests that pages name are there.
 
 usage: docs/check.py [--write | --reference FOLDER | --long | --words CRATE]
 
@@ -89,6 +89,7 @@ def faults():
     yield from rows.false_counts()
     yield from commands.other_lists()
     yield from recipes.lost_files()
+    yield from recipes.lost_lines()
     yield from codes.lost_codes()
     yield from members.unlisted()
     yield from members.lost_tests()

@@ -1,6 +1,7 @@
 """CONTRIBUTING's recipes: each file that a recipe names exists, and each file that its search finds
 is in the recipe or among its exceptions. The search and the exceptions, which are crates or files,
-are in a comment below the recipe's heading: `<!-- search PATTERN; not CRATE CRATE/src/FILE -->`."""
+are in a comment below the recipe's heading: `<!-- search PATTERN; not CRATE CRATE/src/FILE -->`.
+The lines that the page's exercise keeps or takes out are in their files."""
 import re
 
 from checking.places import CRATES, ROOT, crates
@@ -10,6 +11,7 @@ RECIPE = re.compile(r"^### \d+\. (.+)\n((?:(?!#).*\n)+)", re.M)
 SEARCH = re.compile(r"<!-- search (\S+)(?:; not ([^>]+?))? -->")
 NAMED = re.compile(r"`([^`\s]+)`")
 FOLDERS = ("src", "specs", "proofs")
+DIFF = re.compile(r"^--- a/(.+)\n((?:(?!---|```).*\n)+)", re.M)
 
 
 def path_of(folder, name):
@@ -76,3 +78,11 @@ def lost_files():
         for it in exceptions:
             if not any(is_excepted(file, [it]) for file in found - named):
                 yield f"{PAGE.name}: {title}: its exception {it} has no {search[1]}"
+
+
+def lost_lines():
+    for path, lines in DIFF.findall(PAGE.read_text()):
+        kept = (ROOT / path).read_text().splitlines()
+        for it in re.findall(r"^[ -](.+)$", lines, re.M):
+            if it not in kept:
+                yield f"{PAGE.name}: {path} has no line {it.strip()}"
