@@ -35,6 +35,7 @@ MANIFESTS = {
     # The array `more` with another shape: this file loads only if no array of next.toml exists.
     "other.toml": manifest("other", array("more", 32, 5), TAKING),
     "one.toml": manifest("one", app("z", "none.rule", "3.0")),
+    "current.toml": manifest("one", app("z", "none.rule", "3.0")),
     "script.txt": "start 0 x 99 1.0\nstep 0 4097\nswap next.toml\nstart 1 z 7 -\nstep 1 4097\n"
     "finish 0\nfinish 1\n",
     "ask.json": request("x", "y"),
@@ -58,7 +59,21 @@ COMMANDS = {
     "simulate": ["simulate", "one.toml", "--against", "one.toml", "--svg", "OUT"],
     "ask": ["ask", "first.toml", "ask.json", "--at", "0", "--cells", "q[0]=3"],
     "ask, why": ["ask", "first.toml", "ask.json", "--at", "0", "--cells", "q[0]=3", "--why"],
+    "ask, of a server": ["ask", "first.toml", "ask.json", "--at", "0", "--operator", "PORT"],
+    "check, json": ["check", "first.toml", "--json"],
+    "completion": ["completion", "bash"],
+    "diff": ["diff", "first.toml", "next.toml", "--cells", "q[0]=3"],
+    "diff, json": ["diff", "first.toml", "next.toml", "--operator", "PORT", "--json"],
+    "report, a page": ["report", "a.log", "--html", "PAGE"],
+    "report, continued": ["report", "a.log", "--state", "STATE", "--prometheus"],
+    "report, of a server": ["report", "a.log", "--operator", "PORT"],
+    "stage, history": ["stage", "history", "--folder", "."],
+    "stage, status": ["stage", "status", "--folder", ".", "--no-load"],
+    "trace": ["trace", "take.bin", "--releases", "1", "--arrays", "q:64:1:9,n:64:2"],
+    "why": ["why", "first.toml", "a.log", "--bucket", "7"],
 }
+# The files that a call may write, with their bytes before it; without bytes it isn't there.
+WRITTEN = {"OUT": BEFORE, "PAGE": b"<!DOCTYPE html> as it was", "STATE": None}
 
 
 # A simulation allocates for each client: after the first 600, every 997th is enough.
@@ -101,6 +116,10 @@ def is_refused_check(found, untroubled):
     return all((said[it], errors.get(it)) == (wanted[it], warned.get(it)) for it in others)
 
 
+def bytes_of(path):
+    return path.read_bytes() if path.exists() else None
+
+
 class Commands:
     """The program's commands, each in its own process."""
 
@@ -108,17 +127,26 @@ class Commands:
         self.refusal, self.folder, self.program = refusal, folder, program
         write_files(folder, program)
 
+    def reset(self):
+        """Puts the files that a call may write as they are before it."""
+        for name, before in WRITTEN.items():
+            if before is None:
+                (self.folder / name).unlink(missing_ok=True)
+            else:
+                (self.folder / name).write_bytes(before)
+
     def once(self, words):
-        """Status, output, errors, and the bytes of OUT."""
+        """Status, output, errors, and the bytes of the files that it may write."""
         how = {"env": self.refusal.env(), "cwd": self.folder, "timeout": PATIENCE}
         words = [program_of(words[0], self.program), *words]
         done = subprocess.run(words, capture_output=True, text=True, **how)
         errors = PROGRESS.sub("", done.stderr)
-        return done.returncode, done.stdout, errors, (self.folder / "OUT").read_bytes()
+        written = {it: bytes_of(self.folder / it) for it in WRITTEN}
+        return done.returncode, done.stdout, errors, written
 
     def told(self, name, words):
         def answer(call):
-            (self.folder / "OUT").write_bytes(BEFORE)
+            self.reset()
             self.refusal.ask(call)
             found = self.once(words)
             if not self.refusal.is_reached():
@@ -128,13 +156,22 @@ class Commands:
         calls = CALLS.get(name, itertools.count)
         print(told(f"rollout {name}", self.refusal.in_turn(answer, calls)))
 
+    def run(self, name, words):
+        """Makes each allocation fail. PORT is the operator's port of a server without failures."""
+        if "PORT" not in words:
+            self.told(name, words)
+            return
+        with Server(self.program, self.folder / "first.toml", 1, cwd=self.folder) as server:
+            port = str(server.operator)
+            self.told(name, [port if it == "PORT" else it for it in words])
+
 
 def kind(found, untroubled):
     """How a command with a failed allocation ended; its second result is the usual one."""
     refused = LINE.fullmatch(found[2])
     if untroubled[0] != 0 or not WARNINGS.fullmatch(untroubled[2]):
         raise Wrong(f"again: {untroubled}")
-    if refused and found == (1, "", found[2], BEFORE):
+    if refused and found == (1, "", found[2], WRITTEN):
         return refused[1]
     if is_refused_event(found, untroubled):
         return "E6 Memory, of an event"
@@ -150,8 +187,8 @@ CELL = re.compile(r"(\w+\[\d+\]) (\d+)")
 
 
 def state(server):
-    """What the operator can read: generation, apps, and counters."""
-    return server.ask("show"), server.ask("cells")
+    """What the operator can read: apps, counters, and what is halted, each with the generation."""
+    return server.ask("show"), server.ask("cells"), server.ask("state")
 
 
 def serves(server):
@@ -197,11 +234,13 @@ class Servers:
                 raise Wrong(f"again: {server.first!r}, {server.said()!r}")
         return answer
 
-    def at_operator(self, call, line, untroubled, again):
+    def at_operator(self, call, line, untroubled, again, earlier=()):
         """Sends a line to a server in which this allocation fails, and then calls `again`."""
         self.refusal.ask(0)
         with self.server() as server:
             server.exchange(ASK)
+            for it in earlier:
+                server.ask(it)
             before = state(server)
             self.refusal.ask(call)
             reply = server.ask(line)
@@ -216,12 +255,12 @@ class Servers:
             again(server, before)
             return LINE.fullmatch(reply)[1]
 
-    def asked(self, call, line, untroubled):
+    def asked(self, call, line, untroubled, earlier=()):
         def again(server, before):
             if (reply := server.ask(line)) != untroubled(before):
                 raise Wrong(f"again: {reply!r}")
 
-        return self.at_operator(call, line, untroubled, again)
+        return self.at_operator(call, line, untroubled, again, earlier)
 
     def load(self, call):
         """A failed load leaves no arrays: a load that declares one of them differently succeeds."""
@@ -229,7 +268,7 @@ class Servers:
         def next_one(server, before):
             if server.ask("load next.toml") != "generation 2\n":
                 raise Wrong("again: no generation 2")
-            shown, cells = state(server)
+            shown, cells, _ = state(server)
             if cells != before[1] or "app z releases 1 slots" not in shown:
                 raise Wrong(f"again: {shown} {cells}")
 
@@ -298,5 +337,10 @@ SERVER = {
     "load": Servers.load,
     "show": lambda servers, call: servers.asked(call, "show", lambda before: before[0]),
     "cells": lambda servers, call: servers.asked(call, "cells", lambda before: before[1]),
+    "state": lambda servers, call: servers.asked(call, "state", lambda before: before[2]),
+    "halt": lambda servers, call: servers.asked(call, "halt x", lambda _: "generation 2\n"),
+    "resume": lambda servers, call: servers.asked(
+        call, "resume x", lambda _: "generation 3\n", ["halt x"]
+    ),
     "stop": lambda servers, call: servers.asked(call, "stop", lambda _: "stopping\n"),
 }
