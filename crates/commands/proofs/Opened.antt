@@ -19,7 +19,7 @@ use Rattle.load.specs.Loaded.{IsLoadedFrom}
 use Rattle.load.specs.Made.{IsMadeFrom}
 use Rattle.serving.specs.Manifests.{RefusesToServe}
 use Rattle.serving.specs.Staffed.{IsStaffFault}
-use Rattle.serving.specs.declared.counters.Counters.{Counters}
+use Rattle.server_counters.specs.declared.counters.Counters.{Counters}
 use Rattle.serving.specs.declared.server.Server.{Server}
 use Rattle.serving.specs.declared.serving_fault.ServingFault.{ServingFault}
 

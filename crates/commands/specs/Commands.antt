@@ -9,7 +9,7 @@ use Rattle.command_words.specs.Requests.{AskFor, AskForHelp, AskForNothing}
 use Rattle.commands.specs.Texts.{output_text}
 use Rattle.command_words.specs.declared.request.Command.{Command}
 use Rattle.commands.specs.declared.output.CommandOutput.{CommandOutput}
-use Rattle.serving.specs.declared.counters.Counters.{Counters}
+use Rattle.server_counters.specs.declared.counters.Counters.{Counters}
 
 -- the command has this output, whose text was appended to standard output; standard error got
 -- nothing. If it served, the server opened with these counters

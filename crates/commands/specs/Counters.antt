@@ -1,17 +1,15 @@
--- The counters with which a server opens, and which it leaves.
-use Rattle.std.specs.Prelude.{◌≡◌, ◌⊎◌, ℕ, List, [], Bool, Option, Some, None, Ok, map}
-use Rattle.std.specs.Prelude.{string_bytes}
+-- The counters with which a server opens, by its command.
+use Rattle.std.specs.Prelude.{◌≡◌, ◌⊎◌, ℕ, List, [], Option, Some, None, string_bytes}
 use Rattle.bounded_files.specs.Files.{KnownFiles}
 use Rattle.cells.specs.declared.array.CellArray.{CellArray}
 use Rattle.cells.specs.Events.{AreCells, AreZeros}
 use Rattle.command_words.specs.declared.request.Command.{Command}
 use Rattle.command_words.specs.declared.request.Command.TheVariants as command
-use Rattle.counters_file.specs.Text.{Contents, contents_in}
 use Rattle.load.specs.Loaded.{IsLoadedFrom}
 use Rattle.load.specs.Made.{IsMadeFrom}
 use Rattle.serving.specs.Manifests.{RefusesToServe}
 use Rattle.serving.specs.Staffed.{IsStaffFault}
-use Rattle.serving.specs.declared.counters.Counters.{Counters}
+use Rattle.server_counters.specs.declared.counters.Counters.{Counters}
 use Rattle.serving.specs.declared.server.Server.{Server}
 use Rattle.serving.specs.declared.serving_fault.ServingFault.{ServingFault}
 
@@ -21,21 +19,6 @@ OpensWith (command.Serve manifest (Some path) plan) (Some c) = AreCells c.values
 OpensWith (command.Serve manifest (Some path) plan) None = ⊥
 OpensWith command (Some c) = ⊥
 OpensWith command None = Unit {0}
-
--- counters as the contents of a file
-abbrev pub contents_with : (was_stopped : Bool) → Counters → Contents
-contents_with was_stopped c = record {
-  was_stopped = was_stopped;
-  halted = map string_bytes c.halted.items;
-  counters = record { arrays = c.directory; values = c.values.items };
-}
-
--- a server opens with what the file says, whether its server was stopped or not; or without a file
--- with no halted app, no arrays and zeros
-abbrev pub OpensFrom : Option (List ℕ) → Counters → Type 0
-OpensFrom (Some text) c =
-    (was_stopped : Bool) × (contents_in text ≡ Ok (contents_with was_stopped c))
-OpensFrom None c = (c.halted.items ≡ []) × (c.directory ≡ []) × AreZeros 8192 c.values.items
 
 -- the arrays of counters, or none
 abbrev pub declared_by : Option Counters → List CellArray

@@ -18,7 +18,7 @@ use Rattle.commands.specs.declared.command_fault.Fault.{Fault}
 use Rattle.commands.specs.declared.command_fault.Fault.TheVariants.{Ask, Program, Serving}
 use Rattle.commands.specs.declared.output.CommandOutput.{CommandOutput}
 use Rattle.commands.specs.declared.output.CommandOutput.TheVariants as output
-use Rattle.serving.specs.declared.counters.Counters.{Counters}
+use Rattle.server_counters.specs.declared.counters.Counters.{Counters}
 
 -- if it is to serve, the server opens with these counters
 module _ (known : KnownFiles) (counters : Option Counters) where

@@ -7,16 +7,16 @@ ghost use Rattle.serving.specs.Staffed.{IsStaffFault, IsEndFault};
 ghost use Rattle.workers.specs.Texts.{serving_line};
 
 use crate::command_fault::Fault;
-use crate::kept_counters::Found;
 use crate::serve::serve_by;
 use command_words::{Command, Plan};
 use counter_store::CounterStore;
 use counters_file::KeptFile;
 use load::Disk;
+use server_counters::{Counters, Found};
 use server_log::{
     LogOutput, LogQueue, Starting, note_refused_start, note_start, start_log, write_refused_start,
 };
-use serving::{Counters, Server, ServingFault};
+use serving::{Server, ServingFault};
 use std::io::Write;
 use std::net::{Net, TcpListener, TcpStream};
 use std::sync::Wait;

@@ -4,17 +4,19 @@ ghost use Rattle.std.specs.Prelude.{IfOk, IfErr, IfSome, Option, Some};
 ghost use Rattle.cells.specs.Events.{AreCells};
 ghost use Rattle.commands.specs.Counters.{IsReady, IsStartRefusal, OpensWith};
 ghost use Rattle.commands.specs.Outputs.{IsOutput, IsRefused};
-ghost use Rattle.serving.specs.declared.counters.Counters.{Counters};
+ghost use Rattle.server_counters.specs.declared.counters.Counters.{Counters};
 
 use crate::command_fault::Fault;
 use crate::output::CommandOutput;
 use crate::replays::replay_script;
+use bounded_files::ResourceFault;
 use command_line::RunArgs;
 use command_words::{Command, Plan};
 use load::Disk;
 use operator::{ask_server, stop_and_wait};
 use program_tools::{assemble_file, compile_file, list_file, run_file, verify_file};
-use serving::{Counters, Server, ServingFault, prepare};
+use server_counters::Counters;
+use serving::{Server, ServingFault, prepare};
 use std::alloc::Global;
 use std::fs::File;
 use std::net::{Net, TcpListener, TcpStream};
@@ -105,7 +107,7 @@ where
     }
     match Counters::none(rt.alloc()) {
         Ok(none) => prepare_with(rt, disk, manifest, plan, none),
-        Err(fault) => Err(fault),
+        Err(_) => Err(ServingFault::Resource(ResourceFault::Memory)),
     }
 }
 

@@ -6,14 +6,14 @@ ghost use Rattle.std.specs.Prelude.{◌≡◌, ◌*◌, ◌⊎◌, OnOk, IfErr, 
 ghost use Rattle.serving.specs.Staffed.{IsStaffFault, IsEndFault};
 ghost use Rattle.workers.specs.Texts.{serving_line};
 
-use crate::kept_counters::Found;
 use crate::logged::serve_logged;
 use command_words::Plan;
 use counter_store::CounterStore;
 use counters_file::KeptFile;
 use load::Disk;
+use server_counters::{Counters, Found};
 use server_log::{LogOutput, LogQueue};
-use serving::{Counters, Manifests, Server, ServingFault};
+use serving::{Manifests, Server, ServingFault};
 use std::io::Write;
 use std::net::{Net, TcpListener, TcpStream};
 use std::sync::Wait;

@@ -1,16 +1,15 @@
 //! `serve`, from a server that is ready to the status: with a file of counters or without one.
 
-ghost use Rattle.std.specs.Prelude.{◌≡◌, ◌≤◌, IfSome, Option, Some};
+ghost use Rattle.std.specs.Prelude.{◌≡◌, ◌≤◌, IfOk, IfSome, Option, Some};
 ghost use Rattle.std.specs.Io.KnownBytes.{Appends};
 ghost use Rattle.command_line.specs.Printed.{IsGiven};
 ghost use Rattle.commands.specs.Commands.{IsAnswered};
 ghost use Rattle.commands.specs.Counters.{Opens};
 ghost use Rattle.commands.specs.Outputs.{IsOutput};
-ghost use Rattle.serving.specs.declared.counters.Counters.{Counters};
+ghost use Rattle.server_counters.specs.declared.counters.Counters.{Counters};
 ghost use Rattle.workers.specs.Texts.{serving_line};
 
 use crate::command_fault::Fault;
-use crate::kept_counters::{OwnFile, store_of, write_last};
 use crate::output::CommandOutput;
 use crate::refusing::{refuse, refuse_unlogged};
 use crate::serve::serve_until_stopped;
@@ -20,8 +19,9 @@ use command_words::{Command, Plan};
 use counter_store::CounterStore;
 use counters_file::{CountersFault, KeptFile, MemoryFile};
 use load::Disk;
+use server_counters::{Counters, OwnFile, store_of, write_last};
 use server_log::{LogOutput, write_counters};
-use serving::{Counters, Server, ServingFault};
+use serving::{Server, ServingFault};
 use std::alloc::Global;
 use std::fs::File;
 use std::io::Write;
@@ -190,7 +190,7 @@ where
         found,
         said: _said,
     } = own;
-    let store = match store_of(rt.alloc(), file, &server) {
+    let store = match first_store(rt.alloc(), file, &server) {
         Ok(store) => store,
         Err(fault) => {
             drop(server);
@@ -223,6 +223,19 @@ where
         }
         Err(fault) => refuse_serving(err, fault),
     }
+}
+
+// The store of a server that is ready, in this file.
+fn first_store<F: KeptFile + Drop>(
+    alloc: Global,
+    file: F,
+    server: &Server,
+) -> Result<CounterStore<F>, CountersFault>
+    ensures numbers { IfOk result (λ s. s.ledger.numbers ≡ server.now.values.items) }
+    ensures arrays { IfOk result (λ s. s.ledger.arrays ≡ server.now.loaded.directory) }
+{
+    let directory = &server.loaded().directory;
+    store_of(alloc, file, server.halted(), directory, server.values())
 }
 
 // Writes what a server left to its file, which it has given back.

@@ -3,25 +3,18 @@
 
 ghost use Rattle.std.specs.Prelude.{IfOk, Option, Some};
 ghost use Rattle.commands.specs.Outputs.{IsOutput};
-ghost use Rattle.serving.specs.declared.counters.Counters.{Counters};
+ghost use Rattle.server_counters.specs.declared.counters.Counters.{Counters};
 
 use crate::command_fault::Fault;
-use crate::kept_counters::{Opened, OwnFile, read_own};
 use crate::output::CommandOutput;
 use command_words::{Command, Plan};
-use counters_file::{CountersFault, DeviceFile, owner_of};
+use counters_file::CountersFault;
 use load::Disk;
+use server_counters::{Opened, OwnFile, opened_within};
 use serving::Server;
 use std::fs::File;
 use std::rt::Files;
-use std::thread;
-use std::time::{Clock, Duration};
-
-/// How often a second the server tries to get the file.
-const TRIES: u32 = 20;
-
-/// The time between two tries.
-const TRY_MILLIS: u64 = 50;
+use std::time::Clock;
 
 /// Whether a server without the file of its counters has to wait for it.
 pub fn waits_for_file(command: &Command<'_>) -> bool {
@@ -67,14 +60,7 @@ where
         drop(server);
         return Err(Fault::Counters(CountersFault::InUse));
     };
-    let file = match file_within(rt, path, plan.wait.unwrap_or(0)) {
-        Ok(file) => file,
-        Err(fault) => {
-            drop(server);
-            return Err(Fault::Counters(fault));
-        }
-    };
-    let Opened { file, counters } = match read_own(rt.alloc(), file) {
+    let Opened { file, counters } = match opened_within(rt, path, plan.wait.unwrap_or(0)) {
         Ok(opened) => opened,
         Err(fault) => {
             drop(server);
@@ -85,34 +71,4 @@ where
         Ok(server) => Ok(InTurn { file, server }),
         Err(fault) => Err(Fault::Serving(fault)),
     }
-}
-
-// The file at a path, once no other server has it, if that is within these seconds.
-fn file_within<'a, R>(
-    rt: &'a R,
-    path: &str,
-    seconds: u16,
-) -> Result<DeviceFile<'a, R>, CountersFault>
-where
-    R: Files<File = File> + AllocGlobal + Clock + Eprint,
-{
-    print_waiting(rt, path);
-    for _ in 0..u32::from(seconds) * TRIES {
-        match DeviceFile::lock(rt, path) {
-            Err(CountersFault::InUse) => thread::sleep(rt, Duration::from_millis(TRY_MILLIS)),
-            outcome => return outcome,
-        }
-    }
-    DeviceFile::lock(rt, path)
-}
-
-// Prints which process has the file. The runtime itself writes the line to standard error.
-fn print_waiting<R>(rt: &R, path: &str)
-where
-    R: Files<File = File> + AllocGlobal + Eprint,
-{
-    let _printed = match owner_of(rt, path) {
-        Some(process) => eprintln!(rt; "waiting for counters: process {process} has them"),
-        None => eprintln!(rt; "waiting for counters: another process has them"),
-    };
 }

@@ -4,5 +4,4 @@ mod Turns
 mod Closing
 mod Covers
 mod Leaving
-mod Zeros
 mod Moved

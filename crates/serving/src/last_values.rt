@@ -5,12 +5,12 @@
 ghost use Rattle.std.specs.Prelude.{◌≡◌, ◌+◌, ◌<◌, IfErr, IfOk, IsTrue, length, slice_index};
 ghost use Rattle.serving.specs.Staffed.{IsEndFault};
 
-use crate::counters::Counters;
 use crate::ended::Ended;
 use crate::serving_fault::ServingFault;
 use access_log::{Counter, LogEvent};
 use cells::{CellArray, CellNo};
 use hot_swap::SwapFault;
+use server_counters::Counters;
 use server_log::{LogQueue, seconds_from_now};
 use shared_cells::Closed;
 use std::sync::Wait;

@@ -11,7 +11,6 @@
 #![tactic(auto)]
 
 mod bell;
-mod counters;
 mod ended;
 mod kept_workers;
 mod last_values;
@@ -25,7 +24,6 @@ mod stored;
 mod storing;
 mod worker_list;
 
-pub use counters::Counters;
 pub use manifests::Manifests;
 pub use new_staff::staff;
 pub use server::{Server, prepare};

@@ -12,13 +12,13 @@ ghost use Rattle.serving.specs.Manifests.{RefusesToServe};
 ghost use Rattle.serving.specs.Staff.{IsLoadAtStart};
 ghost use Rattle.serving.specs.Staffed.{IsStaffFault};
 
-use crate::counters::Counters;
 use crate::new_staff::staff;
 use crate::serving_fault::ServingFault;
 use crate::staffed::StaffedServer;
 use bounded_files::ResourceFault;
 use load::{Disk, load_with_digest};
 use ruleset::LoadedRuleset;
+use server_counters::Counters;
 use std::net::{Net, TcpListener, TcpStream};
 use std::sync::Wait;
 use std::time::Clock;

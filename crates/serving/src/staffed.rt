@@ -10,7 +10,6 @@ ghost use Rattle.serving.specs.Ended.{LeavesOneWorld};
 ghost use Rattle.serving.specs.Staff.{IsStaff};
 ghost use Rattle.serving.specs.Staffed.{IsEndFault};
 
-use crate::counters::Counters;
 use crate::ended::close_cells;
 use crate::last_values::left_by;
 use crate::serving_fault::ServingFault;
@@ -21,6 +20,7 @@ use hot_swap::Watcher;
 use kept_cells::KeptCells;
 use operator::{Control, Loader, loads_go_on};
 use restart_laws::servers_count_as_one;
+use server_counters::Counters;
 use shared_cells::{SharedCells, SharedPass, passes_gain_lists};
 use std::io::Write;
 use std::net::{Net, TcpListener, TcpStream};

@@ -1,12 +1,11 @@
 //! The counters of a server at its start and at its end, and its halted apps.
 
-ghost use Rattle.std.specs.Prelude.{◌≡◌, [], IfOk, IfErr};
+ghost use Rattle.std.specs.Prelude.{◌≡◌, [], IfOk};
 ghost use Rattle.cells.specs.Events.{AreCells, AreZeros};
-ghost use Rattle.serving.specs.Staffed.{IsStaffFault};
+ghost use Rattle.server_counters.specs.Counters.{contents_with};
 
-use crate::serving_fault::ServingFault;
-use bounded_files::ResourceFault;
 use cells::{CellNo, Directory};
+use counters_file::{Contents, Parts};
 use std::alloc::{AllocError, Global};
 
 /// What a server opens with, and leaves for the next one.
@@ -20,28 +19,41 @@ pub struct Counters {
 }
 
 impl Counters {
-    /// No halted app, no arrays, and all values 0. Returns B4 if the values can't be allocated.
-    // open: when B4 is returned.
-    pub fn none(alloc: Global) -> Result<Counters, ServingFault>
+    /// No halted app, no arrays, and all values 0.
+    // open: whether an allocation fails.
+    pub fn none(alloc: Global) -> Result<Counters, AllocError>
         ensures halted { IfOk result (λ c. c.halted.items ≡ []) }
         ensures arrays { IfOk result (λ c. c.directory ≡ []) }
         ensures zeros { IfOk result (λ c. AreZeros 8192 c.values.items) }
         ensures cells { IfOk result (λ c. AreCells c.values.items) }
-        ensures fault { IfErr result IsStaffFault }
     {
-        let Ok(values) = zeros(alloc, CellNo::COUNT as usize) else {
-            return Err(ServingFault::Resource(ResourceFault::Memory));
-        };
+        let values = zeros(alloc, CellNo::COUNT as usize)?;
         Ok(Counters {
             halted: Vec::new(alloc),
             directory: Directory::new(alloc),
             values,
         })
     }
+
+    /// The halted apps, arrays and values of a file.
+    pub(crate) fn of(contents: Contents) -> Counters
+        ensures { contents_with contents.was_stopped result ≡ contents }
+    {
+        let Parts {
+            halted,
+            directory,
+            values,
+        } = contents.into_parts();
+        Counters {
+            halted,
+            directory,
+            values,
+        }
+    }
 }
 
-/// `count` zeros.
-pub(crate) fn zeros(alloc: Global, count: usize) -> Result<Vec<u64>, AllocError>
+// `count` zeros.
+fn zeros(alloc: Global, count: usize) -> Result<Vec<u64>, AllocError>
     ensures { IfOk result (λ v. AreZeros count v.items) }
 {
     Vec::from_elem(alloc, 0, count)

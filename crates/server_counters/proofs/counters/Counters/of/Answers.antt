@@ -1,5 +1,5 @@
-use Rattle.commands.proofs.Found.{same_contents}
-use Rattle.commands.proofs.kept_counters.counters_of.Goals as goal
+use Rattle.server_counters.proofs.Found.{same_contents}
+use Rattle.server_counters.proofs.counters.Counters.of.Goals as goal
 
 pub returns : goal.returns
 returns c =

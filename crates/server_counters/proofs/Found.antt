@@ -3,8 +3,8 @@ use Rattle.std.proofs.Common.{◌≡◌, ◌∙◌, ℕ, List, Bool, ap, map}
 use Rattle.std.specs.Prelude.{string_bytes}
 use Rattle.cells.specs.declared.array.CellArray.{CellArray}
 use Rattle.counters_file.specs.Text.{Contents}
-use Rattle.commands.specs.Counters.{contents_with}
-use Rattle.serving.specs.declared.counters.Counters.{Counters}
+use Rattle.server_counters.specs.Counters.{contents_with}
+use Rattle.server_counters.specs.declared.counters.Counters.{Counters}
 
 abbrev contents : Bool → (halted : List (List ℕ)) → List CellArray → (values : List ℕ) → Contents
 contents was_stopped halted arrays values = record {
