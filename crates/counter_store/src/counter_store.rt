@@ -111,6 +111,17 @@ impl<F: KeptFile + Drop> CounterStore<F> {
         Ok(())
     }
 
+    /// Whether there is something to store besides new values of cells without a quota. If there
+    /// isn't, no commit has failed last.
+    // open: whether there is: tests.
+    pub fn is_wanted(&self) -> bool {
+        let is_wanted = self.has_news || self.ledger.is_wanted();
+        if !is_wanted {
+            self.ledger.kept().set_failing(false);
+        }
+        is_wanted
+    }
+
     /// Stores what the workers want, and then raises the ceilings. Cells without a quota get these
     /// present values. Returns whether there was something to store: a new value of a cell without
     /// a quota counts only if it `is_due`. Returns K4 if the file can't be written, and B4 if an

@@ -1,6 +1,6 @@
 //! The numbers that a file has for cells, and the ceilings, which are never above them.
 
-ghost use Rattle.std.specs.Prelude.{◌≡◌, ℕ, List, ◌<◌, ◌≤◌, min, All, IfOk, OnErr, OnOk};
+ghost use Rattle.std.specs.Prelude.{◌≡◌, ℕ, List, ◌<◌, ◌≤◌, All, IfOk, OnErr, OnOk};
 ghost use Rattle.std.specs.Arc.{arc_value};
 ghost use mathlib.Core.List.{IsPrefix};
 ghost use Rattle.cells.specs.Events.{AreCells};
@@ -10,7 +10,7 @@ ghost use Rattle.counter_store.specs.Places.{ArePlaces, places_in};
 ghost use Rattle.counter_store.specs.Quotas.{CoveredAreStored};
 
 use crate::laws::places_are_stored;
-use crate::next_number::{is_any_new, plan};
+use crate::next_number::{ceiling, is_any_new, is_any_wanted, mark_of, plan};
 use crate::places::{are_no_more, places};
 use ceilings::{Reader, Writer};
 use cells::{CellNo, Directory, arrays_lie_apart};
@@ -119,6 +119,11 @@ impl Ledger {
         places_are_stored();
         let _arrays = self.directory.arrays();
         self.kept.seen(receipt, &mut self.writer);
+    }
+
+    /// Whether the workers want a higher number.
+    pub(crate) fn is_wanted(&self) -> bool {
+        is_any_wanted(&self.kept, &self.places)
     }
 
     /// Plans the next numbers, with these values of the cells without a quota. Returns whether one
@@ -237,14 +242,9 @@ impl Ledger {
         ensures arrays { self.new.arrays ≡ self.old.arrays }
         ensures ceilings { self.new.ceilings ≡ self.old.ceilings }
     {
-        let ceiling = ceiling(self.places[cell], self.numbers[cell]);
-        self.kept.raise(&mut self.writer, cell, ceiling);
+        let (places, number) = (self.places[cell], self.numbers[cell]);
+        let kept = &self.kept;
+        kept.raise(&mut self.writer, cell, ceiling(places, number));
+        kept.set_mark(cell, mark_of(places, number, kept.wanted(cell)));
     }
-}
-
-// The ceiling of a cell with these places, for which this number is stored.
-fn ceiling(places: u64, number: u64) -> u64
-    ensures backed { min places result ≤ number }
-{
-    if places <= number { u64::MAX } else { number }
 }

@@ -8,11 +8,16 @@ ghost use Rattle.counter_store.specs.Ledger.{AreNext};
 use cells::CellNo;
 use kept_cells::Kept;
 
-/// A wanted number that is less than this below the number in the file gets a higher one.
-const NEAR: u64 = 4;
+/// The fewest places ahead of the wanted number, if the quota allows as many.
+const FEWEST: u64 = 64;
 
-/// The fewest places ahead of the wanted number.
-const FEWEST: u64 = 8;
+/// The most places ahead: this part of the quota, or a few.
+const MOST_PART: u64 = 64;
+
+const MOST_FEW: u64 = 16;
+
+/// Once only this part of the places ahead is left, the workers want a higher number.
+const LEFT_PART: u64 = 4;
 
 /// Plans the next numbers of all cells: by what the workers want for cells with places, and their
 /// present values for all others.
@@ -56,20 +61,47 @@ fn next_of(kept: &Kept, places: &[u64], cell: usize, opened: u64, number: u64, p
 }
 
 // The next number of a cell with these places, which opened with a number: ahead of the wanted
-// number by a quarter of what was taken since, or a few places, and never above the quota. It stays
-// as it is if no wanted number is near.
+// number by as many places as were taken since, or a few, and never above the quota. It stays as it
+// is if none is wanted.
 fn next_number(places: u64, opened: u64, number: u64, wanted: u64) -> u64
     ensures not_lower { number ≤ result }
     ensures few { result ≤ max number (min places (wanted + max 16 (places / 64))) }
 {
-    if places == u64::MAX || wanted == 0 || wanted.saturating_add(NEAR) <= number {
+    if places == u64::MAX || wanted == 0 {
         return number;
     }
-    let most = (places / 64).max(16);
-    let above = wanted.saturating_add(NEAR) - number;
-    let used = wanted.saturating_sub(opened) / 4;
-    let ahead = above.saturating_mul(2).max(used).max(FEWEST).min(most);
+    let most = (places / MOST_PART).max(MOST_FEW);
+    let used = wanted.saturating_sub(opened);
+    let ahead = used.max(FEWEST).min(most);
     number.max(places.min(wanted.saturating_add(ahead)))
+}
+
+/// The ceiling of a cell with these places, for which this number is stored.
+pub(crate) fn ceiling(places: u64, number: u64) -> u64
+    ensures backed { min places result ≤ number }
+{
+    if places <= number { u64::MAX } else { number }
+}
+
+/// The mark of a cell with these places whose number is stored: from which wanted number on it gets
+/// a higher one.
+pub(crate) fn mark_of(places: u64, number: u64, wanted: u64) -> u64 {
+    if places <= number {
+        u64::MAX
+    } else {
+        number - number.saturating_sub(wanted) / LEFT_PART
+    }
+}
+
+/// Whether a number is wanted of a cell with places.
+// open: which are wanted.
+pub(crate) fn is_any_wanted(kept: &Kept, places: &[u64]) -> bool {
+    for cell in 0..places.len() {
+        if 0 < places[cell] && places[cell] < u64::MAX && kept.wanted(cell) > 0 {
+            return true;
+        }
+    }
+    false
 }
 
 /// Whether a cell with places has another next number.

@@ -90,10 +90,17 @@ impl Kept {
         self.ceilings.seen(reader, writer);
     }
 
-    /// The greatest number that the workers wanted for a cell so far.
+    /// The greatest number that the workers wanted for a cell so far, if it has reached the cell's
+    /// mark; otherwise 0.
     // open: which number: tests.
     pub fn wanted(&self, cell: usize) -> u64 {
         self.wanted.number(cell)
+    }
+
+    /// Sets a cell's mark. A worker whose tickets reach it wants a higher ceiling.
+    // open: that it does: tests.
+    pub fn set_mark(&self, cell: usize, mark: u64) {
+        self.wanted.set_mark(cell, mark);
     }
 
     /// Notes whether the last commit failed, or took too long. While that is so, no reply waits.
@@ -134,6 +141,14 @@ impl Kept {
         ensures past { IsPast reader.new.raised cell result }
     {
         u64::MAX - self.ceilings.look(reader, limit_word(cell))
+    }
+
+    /// Wants a higher ceiling if this number has reached the cell's mark.
+    pub(crate) fn want_by_mark(&self, cell: usize, number: u64) {
+        if self.wanted.mark(cell) <= number {
+            self.want(cell, number);
+            self.ring();
+        }
     }
 
     pub(crate) fn want(&self, cell: usize, number: u64) {

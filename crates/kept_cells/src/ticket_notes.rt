@@ -19,9 +19,6 @@ use std::marker::Model;
 /// Tickets from here on take no place, since quotas are below.
 const FIRST_ABOVE: u64 = 1 << 63;
 
-/// If a ceiling is less than this above a number, the store may raise it.
-const NEAR: u64 = 4;
-
 /// The notes of a pass: for each cell a number above its tickets since the mark. Only the cells
 /// from `low` on, below `high`, have tickets.
 #[derive(Drop)]
@@ -183,7 +180,7 @@ impl TicketNotes {
 }
 
 // Whether a cell's ceiling is at least this number, or else its limit at most the other. If the
-// ceiling is near, a higher one is wanted.
+// number has reached the cell's mark, a higher ceiling is wanted.
 fn is_cell_reached(kept: &Kept, reader: &mut Reader, cell: usize, above: u64, least: u64) -> bool
     requires own { IsAt kept.now reader.old }
     requires cell { cell < 4096 }
@@ -195,10 +192,7 @@ fn is_cell_reached(kept: &Kept, reader: &mut Reader, cell: usize, above: u64, le
     if ceiling < above {
         return kept.limit(reader, cell) <= least;
     }
-    if ceiling - above < NEAR {
-        kept.want(cell, above);
-        kept.ring();
-    }
+    kept.want_by_mark(cell, above);
     true
 }
 

@@ -4,7 +4,6 @@ ghost use Rattle.std.specs.Prelude.{◌≡◌, IfOk, option_map};
 ghost use Rattle.cells.specs.Events.{AreCells};
 
 use crate::bell::StoreBell;
-use crate::counters::zeros;
 use crate::news::News;
 use cells::CellNo;
 use counter_store::CounterStore;
@@ -97,6 +96,10 @@ impl<'b, 'c, 'l, F: KeptFile + Drop> Storing<'b, 'c, 'l, F> {
         H: Wait + AllocGlobal + Clock,
     {
         let is_due = is_due(rt, self.due);
+        if !is_due && !self.store.is_wanted() {
+            self.note(rt, None);
+            return;
+        }
         match committed(rt.alloc(), &mut self.store, self.cells, is_due) {
             Ok(is_new) => {
                 if is_new || is_due {
@@ -167,7 +170,7 @@ fn committed<F: KeptFile + Drop>(
 fn present_values(alloc: Global, cells: &KeptCells) -> Result<Vec<u64>, AllocError>
     ensures { IfOk result (λ values. AreCells values.items) }
 {
-    let mut values = zeros(alloc, CellNo::COUNT as usize)?;
+    let mut values = Vec::from_elem(alloc, 0, CellNo::COUNT as usize)?;
     cells.copy_values(values.as_mut_slice());
     Ok(values)
 }
