@@ -11,14 +11,19 @@ use Rattle.command_words.specs.declared.request.Command.{Command}
 use Rattle.commands.specs.declared.output.CommandOutput.{CommandOutput}
 use Rattle.server_counters.specs.declared.counters.Counters.{Counters}
 
--- the command has this output, whose text was appended to standard output; standard error got
--- nothing. If it served, the server opened with these counters
-pub record IsAnswered (known : KnownFiles) (command : Command)
-    (before after : Option (List ℕ)) (GetsLines : List ℕ → Type 0) : Type 0 where
+-- the command has this output, whose text was appended to standard output. If it served, the
+-- server opened with these counters
+pub record HasPrinted (known : KnownFiles) (command : Command)
+    (before after : Option (List ℕ)) : Type 0 where
   pub counters : Option Counters
   pub output : CommandOutput
   pub is_output : IsOutput known counters command output
   pub printed : Appends before after (output_text output)
+
+-- so it was answered, and standard error got nothing
+pub record IsAnswered (known : KnownFiles) (command : Command)
+    (before after : Option (List ℕ)) (GetsLines : List ℕ → Type 0) : Type 0 where
+  pub output : HasPrinted known command before after
   pub silent : GetsLines []
 
 -- the words request help, and standard error got nothing; or they make a command, and it was done

@@ -89,7 +89,7 @@ pub(crate) fn mark_of(places: u64, number: u64, wanted: u64) -> u64 {
     if places <= number {
         u64::MAX
     } else {
-        number - number.saturating_sub(wanted) / LEFT_PART
+        number.saturating_sub(number.saturating_sub(wanted) / LEFT_PART)
     }
 }
 

@@ -7,9 +7,11 @@ start-requires-clause-ready g c κs within =
 
 pub returns-in-Ok-clause-done : goal.returns-in-Ok-clause-done
 returns-in-Ok-clause-done g c zero = record {
-  counters = c.args.opening.counters;
-  output = c.in-Ok.output;
-  is_output = c.in-Ok.ensures.output;
-  printed = c.print_output-status.ensures.printed zero;
+  output = record {
+    counters = c.args.opening.counters;
+    output = c.in-Ok.output;
+    is_output = c.in-Ok.ensures.output;
+    printed = c.print_output-status.ensures.printed zero;
+  };
   silent = c.print_output-status.ensures.silent zero;
 }
