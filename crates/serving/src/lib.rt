@@ -10,13 +10,11 @@
 //! See docs/SPECIFICATION.md, "The server".
 #![tactic(auto)]
 
-mod bell;
 mod ended;
 mod kept_workers;
 mod last_values;
 mod manifests;
 mod new_staff;
-mod news;
 mod server;
 mod serving_fault;
 mod staffed;

@@ -8,10 +8,9 @@ ghost use Rattle.workers.specs.Back.{ServerBack};
 ghost use Rattle.workers.specs.Texts.{serving_line};
 ghost use Rattle.serving.specs.Staffed.{IsEndFault};
 
-use crate::bell::{StoreBell, shared_of};
 use crate::kept_workers::kept_workers;
 use crate::serving_fault::ServingFault;
-use crate::storing::{file_of, storing_of};
+use crate::storing::{ServerBell, file_after, thread_of};
 use bounded_files::ResourceFault;
 use counter_store::CounterStore;
 use counters_file::KeptFile;
@@ -24,6 +23,7 @@ use std::net::{Net, TcpListener, TcpStream};
 use std::sync::Wait;
 use std::thread::Threads;
 use std::time::Clock;
+use store_thread::{StoreBell, shared_of};
 use workers::{Ports, Returned, ServeOptions, ServerParts, run};
 
 /// Serves as `workers::run` does, with a new pass for each worker and for the operator. If there is
@@ -69,6 +69,7 @@ where
     let Ok(shared) = shared_of(&store) else {
         return Err(ServingFault::Resource(ResourceFault::Memory));
     };
+    let bell = ServerBell { bell };
     let cover = StoreCover::of(rt, shared, service.timeout / 2);
     let parts = ServerParts {
         loader,
@@ -77,10 +78,10 @@ where
         bell: &bell,
         service,
     };
-    let storing = storing_of(store, &bell, cells, service.log);
+    let thread = thread_of(store, &bell, cells, service.log);
     let pass = KeptPass::plain(pass);
-    match run(rt, ports, &parts, storing, pass, control, kept, out) {
-        Ok((back, storing)) => Ok((back, file_of(storing))),
+    match run(rt, ports, &parts, thread, pass, control, kept, out) {
+        Ok((back, thread)) => Ok((back, file_after(thread))),
         Err(fault) => Err(ServingFault::Resource(fault)),
     }
 }

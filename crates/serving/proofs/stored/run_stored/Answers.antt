@@ -7,9 +7,9 @@ use Rattle.serving.proofs.stored.run_stored.Goals as goal
 pub run-requires-clause-waits : goal.run-requires-clause-waits
 run-requires-clause-waits g c κs within =
     both_or_neither _ _ _ _ (ap (λ kept. option_map arc_value kept) c.of-cover.ensures
-    ∙ c.in-Ok-shared_of.ensures ∙ sym c.storing_of-storing.ensures)
+    ∙ c.in-Ok-shared_of.ensures ∙ sym c.thread_of-thread.ensures)
 
 pub run-requires-clause-stores : goal.run-requires-clause-stores
 run-requires-clause-stores g c κs within =
     has_same _ _ _ _ (ap (λ kept. option_map arc_value kept) c.of-cover.ensures
-    ∙ c.in-Ok-shared_of.ensures ∙ sym c.storing_of-storing.ensures)
+    ∙ c.in-Ok-shared_of.ensures ∙ sym c.thread_of-thread.ensures)

@@ -2,7 +2,7 @@ use Rattle.std.proofs.Common.{◌<◌, length, sym, subst, arith}
 use Rattle.std.proofs.lemmas.List.Elements.{All-get_or}
 use Rattle.cells.specs.Arrays.{HasRanges}
 use Rattle.cells.specs.declared.array.CellArray.{CellArray}
-use Rattle.serving.proofs.news.directory_of.Goals as goal
+use Rattle.store_thread.proofs.news.directory_of.Goals as goal
 
 pub declare_one-requires : goal.declare_one-requires
 declare_one-requires c =

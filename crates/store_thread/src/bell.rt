@@ -13,14 +13,13 @@ use std::sync::atomic::{AtomicBool, Ordering};
 use std::sync::{Arc, Mutex, Wait};
 use std::thread;
 use std::time::{Clock, Duration};
-use workers::Bell;
 
 /// How long the thread waits for its bell. It looks for news that often.
 const MOST_SECONDS: u64 = 1;
 
 /// What the thread shares with the others besides the ceilings.
 #[derive(Drop)]
-pub(crate) struct StoreBell {
+pub struct StoreBell {
     kept: Option<Arc<Kept>>,
     news: Mutex<Option<News>>,
     has_ended: AtomicBool,
@@ -28,7 +27,8 @@ pub(crate) struct StoreBell {
 
 impl StoreBell {
     /// The bell of a store's thread; without a store it does nothing.
-    pub(crate) fn of<F: KeptFile + Drop>(
+    // open: whether it can be shared.
+    pub fn of<F: KeptFile + Drop>(
         store: &Option<CounterStore<F>>,
     ) -> Result<StoreBell, AllocError> {
         let kept = shared_of(store)?;
@@ -67,17 +67,11 @@ impl StoreBell {
         self.has_ended.load(Ordering::SeqCst)
     }
 
-    fn ring(&self) {
-        if let Some(kept) = &self.kept {
-            kept.ring();
-        }
-    }
-}
-
-impl Bell for StoreBell {
-    /// If an allocation fails, the arrays are sent after the next load; until then replies that
-    /// take from a new quota are withheld.
-    fn note<H>(&self, rt: &H, control: &Control)
+    /// Notes what a control has, after another ruleset was installed: arrays may be new, and other
+    /// apps may be halted. If an allocation fails, the next change is noted with this one; until
+    /// then replies that take from a new quota are withheld.
+    // open: that the thread adopts it: tests.
+    pub fn note<H>(&self, rt: &H, control: &Control)
     where
         H: Wait + AllocGlobal,
     {
@@ -93,15 +87,23 @@ impl Bell for StoreBell {
         self.ring();
     }
 
-    fn end(&self) {
+    /// Ends the thread, after all workers.
+    // open: that it ends: tests.
+    pub fn end(&self) {
         self.has_ended.store(true, Ordering::SeqCst);
         self.ring();
+    }
+
+    fn ring(&self) {
+        if let Some(kept) = &self.kept {
+            kept.ring();
+        }
     }
 }
 
 /// What a store shares with the workers, if there is a store.
 // open: whether it can be shared.
-pub(crate) fn shared_of<F: KeptFile + Drop>(
+pub fn shared_of<F: KeptFile + Drop>(
     store: &Option<CounterStore<F>>,
 ) -> Result<Option<Arc<Kept>>, AllocError>
     ensures { IfOk result (λ kept.

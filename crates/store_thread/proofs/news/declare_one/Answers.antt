@@ -1,4 +1,4 @@
-use Rattle.serving.proofs.news.declare_one.Goals as goal
+use Rattle.store_thread.proofs.news.declare_one.Goals as goal
 
 pub declare-requires : goal.declare-requires
 declare-requires c = record { name = c.as_str-name.ensures.name; ranges = c.requires }
