@@ -13,7 +13,7 @@ use Rattle.server_counters.specs.declared.counters.Counters.{Counters}
 use Rattle.serving.specs.declared.server.Server.{Server}
 use Rattle.serving.specs.declared.serving_fault.ServingFault.{ServingFault}
 
--- a server opens with counters of a file if the command names one
+-- there are counters, which fit their cells, exactly if the command names a file for them
 abbrev pub OpensWith : Command → Option Counters → Type 0
 OpensWith (command.Serve manifest (Some path) plan) (Some c) = AreCells c.values.items
 OpensWith (command.Serve manifest (Some path) plan) None = ⊥

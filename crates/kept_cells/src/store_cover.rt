@@ -1,5 +1,5 @@
 //! The cover of cells that a file keeps: a reply waits until each of its tickets is below a ceiling
-//! of the file's store.
+//! of the file's store, or past its cell's limit.
 
 ghost use Rattle.std.specs.Prelude.{◌≡◌, ◌<◌, ◌-◌, ◌^◌, true, IfNone, IfSome, drop, length};
 ghost use Rattle.std.specs.Arc.{arc_value};

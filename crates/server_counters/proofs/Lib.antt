@@ -1,2 +1,2 @@
-mod Found
+mod SameContents
 mod Zeros

@@ -27,7 +27,7 @@ pub enum Found {
 pub struct OwnFile<'a, R> {
     pub file: DeviceFile<'a, R>,
     pub found: Found,
-    /// What it said when it was read, for contracts only.
+    /// The counters that were returned with it, for contracts only.
     pub said: Snapshot<Counters>,
 }
 

@@ -62,7 +62,7 @@ fn first_rules(
 /// these apps are halted, it serves this ruleset, which was loaded from the path, as generation 1;
 /// nothing else is installed. Returns S1 if the counters can't be allocated, H1 if the publisher or
 /// one of its watchers can't, and B4 if other memory can't.
-// open: when B4 is returned.
+// open: when B4 is returned; the time of the load.
 pub fn staff<H>(
     rt: &H,
     ports: Ports,

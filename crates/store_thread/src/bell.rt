@@ -68,8 +68,8 @@ impl StoreBell {
     }
 
     /// Notes what a control has, after another ruleset was installed: arrays may be new, and other
-    /// apps may be halted. If an allocation fails, the next change is noted with this one; until
-    /// then replies that take from a new quota are withheld.
+    /// apps may be halted. If an allocation fails, the next change is noted with this one. Until
+    /// then replies that take from a new quota are withheld, and a crash lifts a new halt.
     // open: that the thread adopts it: tests.
     pub fn note<H>(&self, rt: &H, control: &Control)
     where

@@ -1,4 +1,4 @@
-use Rattle.server_counters.proofs.Found.{same_contents}
+use Rattle.server_counters.proofs.SameContents.{same_contents}
 use Rattle.server_counters.proofs.counters.Counters.of.Goals as goal
 
 pub returns : goal.returns
