@@ -2,7 +2,7 @@
 //! arrays, and its workers. These are made before anything is served.
 
 ghost use Rattle.std.specs.Prelude.{◌≡◌, ◌≤◌, [], ◌∷◌, IfOk, IfErr, length, map, string_bytes};
-ghost use Rattle.std.specs.Prelude.{vec_capacity};
+ghost use Rattle.std.specs.Prelude.{false, vec_capacity};
 ghost use Rattle.std.specs.Arc.{arc_value};
 ghost use Rattle.cells.specs.Events.{AreCells};
 ghost use Rattle.halts.specs.Halts.{served};
@@ -81,6 +81,7 @@ where
     ensures ports { IfOk result (λ s. s.ports ≡ ports) }
     ensures first { IfOk result (λ s. s.control.publishing.latest.generation ≡ 1) }
     ensures rules { IfOk result (λ s. ServesLastLoad s.control) }
+    ensures running { IfOk result (λ s. s.control.is_stopping ≡ false) }
     ensures known { IfOk result (λ s. s.control.publishing.known.rulesets
         ≡ served (map string_bytes halted.items) loaded.rules ∷ []) }
     ensures halted { IfOk result (λ s. s.control.halted ≡ map string_bytes halted.items) }

@@ -2,6 +2,7 @@
 //! manifest or with the ports is found before threads start.
 
 ghost use Rattle.std.specs.Prelude.{◌≡◌, ◌≤◌, [], ◌∷◌, IfOk, IfErr, length, map, string_bytes};
+ghost use Rattle.std.specs.Prelude.{false};
 ghost use Rattle.cells.specs.Events.{AreCells};
 ghost use Rattle.halts.specs.Halts.{served};
 ghost use Rattle.load.specs.Loaded.{IsLoadedFrom};
@@ -192,6 +193,7 @@ impl Server {
         ensures ports { IfOk result (λ s. s.ports ≡ self.ports) }
         ensures first { IfOk result (λ s. s.control.publishing.latest.generation ≡ 1) }
         ensures rules { IfOk result (λ s. ServesLastLoad s.control) }
+        ensures running { IfOk result (λ s. s.control.is_stopping ≡ false) }
         ensures known { IfOk result (λ s. s.control.publishing.known.rulesets
             ≡ served (map string_bytes self.halted.items) self.loaded.rules ∷ []) }
         ensures halted { IfOk result

@@ -26,6 +26,10 @@ impl Bell for ServerBell {
         self.bell.note(rt, control);
     }
 
+    fn is_behind(&self) -> bool {
+        self.bell.is_behind()
+    }
+
     fn end(&self) {
         self.bell.end();
     }

@@ -22,6 +22,7 @@ const MOST_SECONDS: u64 = 1;
 pub struct StoreBell {
     kept: Option<Arc<Kept>>,
     news: Mutex<Option<News>>,
+    is_behind: AtomicBool,
     has_ended: AtomicBool,
 }
 
@@ -35,6 +36,7 @@ impl StoreBell {
         Ok(StoreBell {
             kept,
             news: Mutex::new(None),
+            is_behind: AtomicBool::new(false),
             has_ended: AtomicBool::new(false),
         })
     }
@@ -68,7 +70,7 @@ impl StoreBell {
     }
 
     /// Notes what a control has, after another ruleset was installed: arrays may be new, and other
-    /// apps may be halted. If an allocation fails, the next change is noted with this one. Until
+    /// apps may be halted. If an allocation fails, the bell is behind until the next note. Until
     /// then replies that take from a new quota are withheld, and a crash lifts a new halt.
     // open: that the thread adopts it: tests.
     pub fn note<H>(&self, rt: &H, control: &Control)
@@ -79,12 +81,20 @@ impl StoreBell {
             return;
         }
         let Ok(news) = News::of(rt.alloc(), control) else {
+            self.is_behind.store(true, Ordering::SeqCst);
             return;
         };
+        self.is_behind.store(false, Ordering::SeqCst);
         let mut place = self.news.lock(rt);
         *place = Some(news);
         drop(place);
         self.ring();
+    }
+
+    /// Whether the last note was lost, since an allocation failed.
+    // open: that it says so: tests.
+    pub fn is_behind(&self) -> bool {
+        self.is_behind.load(Ordering::SeqCst)
     }
 
     /// Ends the thread, after all workers.

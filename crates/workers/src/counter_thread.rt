@@ -36,6 +36,9 @@ pub trait Bell {
     where
         H: Wait + AllocGlobal;
 
+    /// Whether the last note was lost, since an allocation failed.
+    fn is_behind(&self) -> bool;
+
     /// All workers have ended.
     fn end(&self);
 }
@@ -50,16 +53,21 @@ impl Bell for NoCounters {
         H: Wait + AllocGlobal,
     {}
 
+    fn is_behind(&self) -> bool {
+        false
+    }
+
     fn end(&self) {}
 }
 
-/// Rings if another ruleset is installed than the one of this generation.
+/// Rings if another ruleset is installed than the one of this generation, or if the last note was
+/// lost.
 pub(crate) fn note_change<H, B>(rt: &H, bell: &B, before: Generation, control: &Control)
 where
     H: Wait + AllocGlobal,
     B: Bell,
 {
-    if control.generation() != before {
+    if control.generation() != before || bell.is_behind() {
         bell.note(rt, control);
     }
 }
