@@ -26,8 +26,8 @@ impl Bell for ServerBell {
         self.bell.note(rt, control);
     }
 
-    fn is_behind(&self) -> bool {
-        self.bell.is_behind()
+    fn has_lost_note(&self) -> bool {
+        self.bell.has_lost_note()
     }
 
     fn end(&self) {

@@ -22,7 +22,7 @@ const MOST_SECONDS: u64 = 1;
 pub struct StoreBell {
     kept: Option<Arc<Kept>>,
     news: Mutex<Option<News>>,
-    is_behind: AtomicBool,
+    has_lost_note: AtomicBool,
     has_ended: AtomicBool,
 }
 
@@ -36,7 +36,7 @@ impl StoreBell {
         Ok(StoreBell {
             kept,
             news: Mutex::new(None),
-            is_behind: AtomicBool::new(false),
+            has_lost_note: AtomicBool::new(false),
             has_ended: AtomicBool::new(false),
         })
     }
@@ -70,7 +70,7 @@ impl StoreBell {
     }
 
     /// Notes what a control has, after another ruleset was installed: arrays may be new, and other
-    /// apps may be halted. If an allocation fails, the bell is behind until the next note. Until
+    /// apps may be halted. If an allocation fails, the note is lost until the next one. Until
     /// then replies that take from a new quota are withheld, and a crash lifts a new halt.
     // open: that the thread adopts it: tests.
     pub fn note<H>(&self, rt: &H, control: &Control)
@@ -81,10 +81,10 @@ impl StoreBell {
             return;
         }
         let Ok(news) = News::of(rt.alloc(), control) else {
-            self.is_behind.store(true, Ordering::SeqCst);
+            self.has_lost_note.store(true, Ordering::SeqCst);
             return;
         };
-        self.is_behind.store(false, Ordering::SeqCst);
+        self.has_lost_note.store(false, Ordering::SeqCst);
         let mut place = self.news.lock(rt);
         *place = Some(news);
         drop(place);
@@ -93,8 +93,8 @@ impl StoreBell {
 
     /// Whether the last note was lost, since an allocation failed.
     // open: that it says so: tests.
-    pub fn is_behind(&self) -> bool {
-        self.is_behind.load(Ordering::SeqCst)
+    pub fn has_lost_note(&self) -> bool {
+        self.has_lost_note.load(Ordering::SeqCst)
     }
 
     /// Ends the thread, after all workers.

@@ -37,7 +37,7 @@ pub trait Bell {
         H: Wait + AllocGlobal;
 
     /// Whether the last note was lost, since an allocation failed.
-    fn is_behind(&self) -> bool;
+    fn has_lost_note(&self) -> bool;
 
     /// All workers have ended.
     fn end(&self);
@@ -53,7 +53,7 @@ impl Bell for NoCounters {
         H: Wait + AllocGlobal,
     {}
 
-    fn is_behind(&self) -> bool {
+    fn has_lost_note(&self) -> bool {
         false
     }
 
@@ -67,7 +67,7 @@ where
     H: Wait + AllocGlobal,
     B: Bell,
 {
-    if control.generation() != before || bell.is_behind() {
+    if control.generation() != before || bell.has_lost_note() {
         bell.note(rt, control);
     }
 }
