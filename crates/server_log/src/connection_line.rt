@@ -69,7 +69,6 @@ where
     let addresses = recorded.keep_addresses(peer)?;
     let connection = Connection {
         lacks_id: recorded.lacks_id,
-        request_id: recorded.request_id(),
         status: status_of(outcome),
         generation: recorded.generation,
         bytes: recorded.bytes,
@@ -78,13 +77,17 @@ where
         ..without_texts(refusal_of(outcome), cause_of(outcome, recorded))
     };
     let (peer, forwarded) = (recorded.peer(addresses), recorded.forwarded_text(addresses));
+    let id = recorded.request_id();
     // Most requests have one app, and a list of one needs no allocation.
     if let Some(app) = recorded.only_app() {
         let apps = slice::from_ref(&app);
-        log.note(rt, &connection_event(peer, forwarded, apps, connection));
+        log.note(rt, &connection_event(peer, forwarded, id, apps, connection));
     } else {
         let apps = recorded.logged_apps()?;
-        log.note(rt, &connection_event(peer, forwarded, &apps, connection));
+        log.note(
+            rt,
+            &connection_event(peer, forwarded, id, &apps, connection),
+        );
     }
     Ok(())
 }
@@ -111,12 +114,14 @@ fn without_texts<'x>(refusal: Option<&'x str>, cause: Option<&'x str>) -> Connec
 fn connection_event<'x>(
     peer: &'x str,
     forwarded: Option<&'x str>,
+    request_id: Option<&'x str>,
     apps: &'x [LoggedApp<'x>],
     connection: Connection<'x>,
 ) -> LogEvent<'x> {
     LogEvent::Connection(Connection {
         peer,
         forwarded,
+        request_id,
         apps,
         ..connection
     })
