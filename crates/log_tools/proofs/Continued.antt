@@ -1,13 +1,16 @@
 -- A report that continues from a state.
-use Rattle.std.proofs.Common.{ℕ, List, Option, None}
+use Rattle.std.proofs.Common.{ℕ, List, Option, None, Bool, string_bytes}
+use Rattle.markup.specs.WellFormed.{HasPicture}
 use Rattle.report.specs.declared.counting.Report.{Report}
 use Rattle.report.specs.declared.metrics.MetricKind.TheVariants.{Counter}
 use Rattle.report.specs.declared.window.Window.{Window}
+use Rattle.report_page.specs.Pages.{HasPage}
 use Rattle.report_state.specs.Places.{AreApart, KeepsApart, LogPlace}
 use Rattle.report_state.specs.States.{SpellsCounts}
-use Rattle.log_tools.specs.Continued.{BeginsFrom, Continues, HasContinued}
+use Rattle.log_tools.specs.Continued.{BeginsFrom, Continues, HasContinued, HasOutput}
 use Rattle.log_tools.specs.Reports.{CountsLogs, IsTextBy}
 use Rattle.log_tools.specs.declared.report_form.ReportForm.{ReportForm}
+use Rattle.log_tools.specs.declared.reporting.ReportOutput.{ReportOutput}
 
 abbrev pub all_times : Window
 all_times = record { since = None; until = None }
@@ -29,15 +32,27 @@ continues n form begun report text state reads text_is spelled old new kept = re
   kept = kept;
 }
 
-pub has_continued : (n : ℕ) (form : ReportForm) (text : List ℕ) (state : Option (List ℕ))
-    (begun report : Report) (old : List LogPlace) → BeginsFrom state begun → AreApart old
-    → Continues n form begun report old text → HasContinued n form text
-has_continued n form text state begun report old begins apart continues = record {
+pub has_output : (n : ℕ) (form : ReportForm) (begun report : Report) (old : List LogPlace)
+    (pictured paged : Bool) (output : ReportOutput)
+    → Continues n form begun report old (string_bytes output.text)
+    → HasPicture pictured output.picture → HasPage paged output.page
+    → HasOutput n form begun old pictured paged output
+has_output n form begun report old pictured paged output continues picture page = record {
+  report = report;
+  continues = continues;
+  picture = picture;
+  page = page;
+}
+
+pub has_continued : (n : ℕ) (form : ReportForm) (pictured paged : Bool) (output : ReportOutput)
+    (state : Option (List ℕ)) (begun : Report) (old : List LogPlace) → BeginsFrom state begun
+    → AreApart old → HasOutput n form begun old pictured paged output
+    → HasContinued n form pictured paged output
+has_continued n form pictured paged output state begun old begins apart continues = record {
   state = state;
   begun = begun;
   begins = begins;
   old = old;
   apart = apart;
-  report = report;
   continues = continues;
 }

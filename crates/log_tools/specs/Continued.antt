@@ -1,16 +1,20 @@
 -- A report that continues from a state. Nothing is known about the files of a device, so the state and
 -- each log have some bytes.
 use Rattle.std.specs.Prelude.{◌≡◌, ℕ, List, [], Option, Some, None, length, flat_map, false}
+use Rattle.std.specs.Prelude.{Bool, string_bytes}
+use Rattle.markup.specs.WellFormed.{HasPicture}
 use Rattle.report.specs.Counts.{Counts}
 use Rattle.report.specs.Lines.{lines_in}
 use Rattle.report.specs.Reading.{CountsLines}
 use Rattle.report.specs.declared.counting.Report.{Report}
 use Rattle.report.specs.declared.metrics.MetricKind.TheVariants.{Counter}
 use Rattle.report.specs.declared.window.Window.{Window}
+use Rattle.report_page.specs.Pages.{HasPage}
 use Rattle.report_state.specs.Places.{AreApart, KeepsApart, LogPlace}
 use Rattle.report_state.specs.States.{SpellsCounts}
 use Rattle.log_tools.specs.Reports.{IsTextBy, IsWindowOf}
 use Rattle.log_tools.specs.declared.report_form.ReportForm.{ReportForm}
+use Rattle.log_tools.specs.declared.reporting.ReportOutput.{ReportOutput}
 
 -- the counts that the state's bytes spell; without a state, no line is counted
 abbrev pub BeginsFrom : Option (List ℕ) → Report → Type 0
@@ -32,12 +36,20 @@ pub record Continues (n : ℕ) (form : ReportForm) (begun report : Report) (old 
   pub new : List LogPlace
   pub kept : KeepsApart old new
 
+-- its text, and the picture and the page, if they are drawn
+pub record HasOutput (n : ℕ) (form : ReportForm) (begun : Report) (old : List LogPlace)
+    (pictured paged : Bool) (output : ReportOutput) : Type 0 where
+  pub report : Report
+  pub continues : Continues n form begun report old (string_bytes output.text)
+  pub picture : HasPicture pictured output.picture
+  pub page : HasPage paged output.page
+
 -- it begins from a state
-pub record HasContinued (n : ℕ) (form : ReportForm) (text : List ℕ) : Type 0 where
+pub record HasContinued (n : ℕ) (form : ReportForm) (pictured paged : Bool)
+    (output : ReportOutput) : Type 0 where
   pub state : Option (List ℕ)
   pub begun : Report
   pub begins : BeginsFrom state begun
   pub old : List LogPlace
   pub apart : AreApart old
-  pub report : Report
-  pub continues : Continues n form begun report old text
+  pub continues : HasOutput n form begun old pictured paged output

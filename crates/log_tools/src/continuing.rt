@@ -1,24 +1,23 @@
 //! `report --state`: a report that continues the last one.
 
-ghost use Rattle.std.specs.Prelude.{◌≡◌, IfOk, OnOk, length};
+ghost use Rattle.std.specs.Prelude.{IfOk, is_some, length};
 ghost use Rattle.std.specs.String.{string_bytes};
-ghost use Rattle.report_state.specs.Places.{KeepsApart};
 ghost use Rattle.report_state.specs.States.{SpellsCounts};
-ghost use Rattle.log_tools.specs.Continued.{Continues, HasContinued};
-ghost use Rattle.log_tools.specs.Reports.{CountsLogs};
+ghost use Rattle.log_tools.specs.Continued.{Continues, HasContinued, HasOutput};
 
-use crate::log_part::{BegunPart, begin_part};
-use crate::progress_lines::ProgressLines;
+use crate::drawing::{Drawings, Drawn, draw_with, is_drawn};
+use crate::new_lines::{NewLines, count_new};
+use crate::page_file::require_page;
+use crate::picture_file::{require_drawable, write_if};
 use crate::report_fault::ReportFault;
 use crate::report_form::{ReportForm, text_by};
-use crate::reporting::{fault_of, path_of};
+use crate::reporting::ReportOutput;
 use crate::state_file::{begun_state, found_state, lock_state};
 use bounded_files::{ResourceFault, write_file};
-use report::{MetricKind, Report, Window, count_log};
-use report_state::{LogPlace, ReportState, keeping_is_transitive, state_text};
+use report::{MetricKind, Report, Window};
+use report_state::{Course, LogPlace, ReportState, state_text};
 use std::alloc::Global;
-use std::fs::{self, File};
-use std::io::{self, Read};
+use std::fs::File;
 use std::rt::Files;
 use std::time::Clock;
 
@@ -35,25 +34,48 @@ const MOST_PLACES: usize = 1000;
 /// this call leaves out, up to 1000 in all, so a later call continues them. A last line without its
 /// line feed is left for the next call, and so is a log with only the first lines of a known one.
 ///
-/// Returns B3 if a log can't be read or isn't a regular file, or if the state can't be read or
-/// written; B4 if an allocation fails; B9 if the file isn't a state; B10 if another call has it.
-// open: whether an allocation fails; which part of each log is counted; that the file has the new
-// state: rows, and `bench/outside`.
+/// The picture and the page are written before the state. They have the course that the state keeps:
+/// at most 200 minutes and 200 hours. The first call that names a picture or a page begins it, and
+/// each later one continues it.
+///
+/// Returns B3 if a log can't be read or isn't a regular file, if the state, the picture or the page
+/// can't be read or written, and if the picture or the page would overwrite another kind of file; B4
+/// if an allocation fails; B9 if the file isn't a state; B10 if another call has it.
+// open: whether an allocation fails; which part of each log is counted; that the files have the new
+// state, the picture and the page: rows, and `bench/outside`.
 #[tactic(auto, using(crate::proofs::Continued::has_continued))]
 pub fn report_on_state<R>(
     rt: &R,
     logs: &[&str],
     state: &str,
     form: ReportForm,
-) -> Result<String, ReportFault>
+    picture: Option<&str>,
+    page: Option<&str>,
+) -> Result<ReportOutput, ReportFault>
 where
     R: Files<File = File> + AllocGlobal + Clock + Eprint,
-    ensures { IfOk result (λ text. HasContinued (length logs.now) form (string_bytes text)) }
+    ensures { IfOk result (HasContinued (length logs.now) form (is_some picture.entry)
+        (is_some page.entry)) }
 {
     let lock = lock_state(rt, state)?;
-    let output = continue_state(rt, logs, state, form);
+    let output = continue_state(rt, logs, state, form, picture, page);
     lock.release(rt, state, output.is_ok());
     output
+}
+
+// The output, and the text of the new state.
+#[derive(Drop)]
+struct Continued {
+    output: ReportOutput,
+    kept: String,
+}
+
+// What a state has counted then: the printed text, the text of the new state, and the course.
+#[derive(Drop)]
+struct Counted {
+    text: String,
+    kept: String,
+    course: Option<Course>,
 }
 
 // Continues the counts of a locked state.
@@ -63,102 +85,161 @@ fn continue_state<R>(
     logs: &[&str],
     state: &str,
     form: ReportForm,
-) -> Result<String, ReportFault>
+    picture: Option<&str>,
+    page: Option<&str>,
+) -> Result<ReportOutput, ReportFault>
 where
     R: Files<File = File> + AllocGlobal + Clock + Eprint,
-    ensures { IfOk result (λ text. HasContinued (length logs.now) form (string_bytes text)) }
+    ensures { IfOk result (HasContinued (length logs.now) form (is_some picture.entry)
+        (is_some page.entry)) }
 {
+    require_files(rt, logs, state, picture, page)?;
+    let drawn = Drawn {
+        picture: picture.is_some(),
+        page: page.is_some(),
+    };
     let found = found_state(rt, state)?;
-    let ReportState { mut report, places } = begun_state(rt.alloc(), found)?;
-    let output = continue_counts(rt, logs, state, form, places, &mut report);
-    drop(report);
-    output
+    let begun = begun_state(rt.alloc(), found)?;
+    let Continued { output, kept } = continued_from(rt, logs, form, drawn, begun)?;
+    write_all(rt, state, kept.as_str(), picture, page, &output)?;
+    Ok(output)
 }
 
-// Counts what is new, and writes the new state.
-fn continue_counts<R>(
+// Refuses a picture and a page that would overwrite another kind of file, or the state.
+fn require_files<R: Files + AllocGlobal>(
     rt: &R,
     logs: &[&str],
     state: &str,
+    picture: Option<&str>,
+    page: Option<&str>,
+) -> Result<(), ReportFault> {
+    let states = [state];
+    require_drawable(rt, &states, picture).map_err(ReportFault::Resource)?;
+    require_page(rt, &states, page).map_err(ReportFault::Resource)?;
+    require_drawable(rt, logs, picture).map_err(ReportFault::Resource)?;
+    require_page(rt, logs, page).map_err(ReportFault::Resource)
+}
+
+fn continued_from<R>(
+    rt: &R,
+    logs: &[&str],
     form: ReportForm,
-    places: Vec<LogPlace>,
-    report: &mut Report,
-) -> Result<String, ReportFault>
+    drawn: Drawn,
+    begun: ReportState,
+) -> Result<Continued, ReportFault>
 where
     R: Files<File = File> + AllocGlobal + Clock + Eprint,
-    ensures { IfOk result (λ text. Continues (length logs.now) form report.old report.new
-        places.items (string_bytes text)) }
+    ensures { IfOk result (λ c. HasOutput (length logs.now) form begun.report begun.places.items
+        drawn.picture drawn.page c.output) }
+{
+    let ReportState {
+        mut report,
+        places,
+        course,
+    } = begun;
+    let course = course_if(rt.alloc(), drawn, course);
+    let continued = output_on(rt, logs, form, drawn, places, course, &mut report);
+    drop(report);
+    continued
+}
+
+// The course that is continued; a picture or a page begins one.
+fn course_if(alloc: Global, drawn: Drawn, found: Option<Course>) -> Option<Course> {
+    match found {
+        Some(course) => Some(course),
+        None => {
+            if is_drawn(drawn) {
+                Some(Course::new(alloc))
+            } else {
+                None
+            }
+        }
+    }
+}
+
+// Counts what is new, and draws the picture and the page.
+#[tactic(auto, using(crate::proofs::Continued::has_output))]
+fn output_on<R>(
+    rt: &R,
+    logs: &[&str],
+    form: ReportForm,
+    drawn: Drawn,
+    places: Vec<LogPlace>,
+    course: Option<Course>,
+    report: &mut Report,
+) -> Result<Continued, ReportFault>
+where
+    R: Files<File = File> + AllocGlobal + Clock + Eprint,
+    ensures { IfOk result (λ c. HasOutput (length logs.now) form report.old places.items
+        drawn.picture drawn.page c.output) }
+{
+    let Counted { text, kept, course } = continue_counts(rt, logs, form, places, course, report)?;
+    let Drawings { picture, page } = draw_with(rt, drawn, course, report)?;
+    Ok(Continued {
+        output: ReportOutput {
+            text,
+            picture,
+            page,
+        },
+        kept,
+    })
+}
+
+// Counts what is new, and makes the new state.
+fn continue_counts<R>(
+    rt: &R,
+    logs: &[&str],
+    form: ReportForm,
+    places: Vec<LogPlace>,
+    course: Option<Course>,
+    report: &mut Report,
+) -> Result<Counted, ReportFault>
+where
+    R: Files<File = File> + AllocGlobal + Clock + Eprint,
+    ensures { IfOk result (λ c. Continues (length logs.now) form report.old report.new
+        places.items (string_bytes c.text)) }
 {
     let window = Window {
         since: None,
         until: None,
     };
-    let mut new = count_parts(rt, logs, &window, places, report)?;
+    let NewLines { places, course } = count_new(rt, logs, &window, places, course, report)?;
+    let mut new = places;
     new.truncate(logs.len().max(MOST_PLACES));
-    let kept = kept_text(rt.alloc(), report, new.as_slice());
+    let kept = kept_text(rt.alloc(), report, new.as_slice(), course.as_ref());
     drop(new);
     let kept = kept?;
-    let Ok(text) = text_by(rt.alloc(), form, MetricKind::Counter, report) else {
-        return Err(ReportFault::Resource(ResourceFault::Memory));
-    };
-    match write_file(rt, state, kept.as_bytes()) {
-        Ok(()) => Ok(text),
-        Err(fault) => Err(ReportFault::Resource(fault)),
+    match text_by(rt.alloc(), form, MetricKind::Counter, report) {
+        Ok(text) => Ok(Counted { text, kept, course }),
+        Err(_) => Err(ReportFault::Resource(ResourceFault::Memory)),
     }
 }
 
-fn kept_text(alloc: Global, report: &Report, places: &[LogPlace]) -> Result<String, ReportFault>
+fn kept_text(
+    alloc: Global,
+    report: &Report,
+    places: &[LogPlace],
+    course: Option<&Course>,
+) -> Result<String, ReportFault>
     ensures { IfOk result (λ text. SpellsCounts (string_bytes text) report.now) }
 {
-    match state_text(alloc, report, places) {
+    match state_text(alloc, report, places, course) {
         Ok(Some(text)) => Ok(text),
         Ok(None) => Err(ReportFault::State),
         Err(_) => Err(ReportFault::Resource(ResourceFault::Memory)),
     }
 }
 
-#[tactic(auto, using(crate::proofs::Logs::no_logs, crate::proofs::Logs::more_logs))]
-fn count_parts<R>(
+// Writes the picture and the page, and then the state. If one can't be written, the state stays.
+fn write_all<R: Files<File = File> + AllocGlobal>(
     rt: &R,
-    paths: &[&str],
-    window: &Window<'_>,
-    old: Vec<LogPlace>,
-    report: &mut Report,
-) -> Result<Vec<LogPlace>, ReportFault>
-where
-    R: Files + AllocGlobal + Clock + Eprint,
-    ensures counts { OnOk result
-        (CountsLogs window.now (length paths.now) report.old report.new) }
-    ensures keeps { IfOk result (λ new. KeepsApart old.items new.items) }
-{
-    keeping_is_transitive();
-    let mut places = old;
-    for path in paths {
-        match count_part(rt, *path, window, places, report) {
-            Ok(more) => places = more,
-            Err(error) => return Err(ReportFault::Resource(fault_of(&error))),
-        }
-    }
-    Ok(places)
-}
-
-#[tactic(auto, using(crate::proofs::Logs::one_log))]
-fn count_part<R>(
-    rt: &R,
-    path: &str,
-    window: &Window<'_>,
-    old: Vec<LogPlace>,
-    report: &mut Report,
-) -> io::Result<Vec<LogPlace>>
-where
-    R: Files + AllocGlobal + Clock + Eprint,
-    ensures counts { OnOk result (CountsLogs window.now 1 report.old report.new) }
-    ensures keeps { IfOk result (λ new. KeepsApart old.items new.items) }
-{
-    let mut file = fs::open(rt, path_of(path))?;
-    let BegunPart { places, length } = begin_part(rt.alloc(), &mut file, old)?;
-    let mut reader = file.take(length);
-    let mut onlooker = ProgressLines::new(rt);
-    count_log(rt.alloc(), &mut reader, window, report, &mut onlooker)?;
-    Ok(places)
+    state: &str,
+    kept: &str,
+    picture: Option<&str>,
+    page: Option<&str>,
+    output: &ReportOutput,
+) -> Result<(), ReportFault> {
+    write_if(rt, picture, &output.picture).map_err(ReportFault::Resource)?;
+    write_if(rt, page, &output.page).map_err(ReportFault::Resource)?;
+    write_file(rt, state, kept.as_bytes()).map_err(ReportFault::Resource)
 }

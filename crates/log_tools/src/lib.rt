@@ -2,7 +2,9 @@
 #![tactic(auto)]
 
 mod continuing;
+mod drawing;
 mod log_part;
+mod new_lines;
 mod page_file;
 mod picture_file;
 mod progress_lines;

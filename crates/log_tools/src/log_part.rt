@@ -24,15 +24,16 @@ struct LogPart {
     place: LogPlace,
 }
 
-/// The places in logs, and the length of a part of a log.
+/// The places in logs, and the part of a log: `length` bytes from `start` on.
 #[derive(Drop)]
 pub(crate) struct BegunPart {
     pub(crate) places: Vec<LogPlace>,
+    pub(crate) start: u64,
     pub(crate) length: u64,
 }
 
-/// Moves to the part of a log that isn't counted, by the places so far, and returns its length.
-/// Notes the place after it. The log must be a regular file.
+/// The part of a log that isn't counted, by the places so far. Notes the place after it. The log
+/// must be a regular file.
 pub(crate) fn begin_part<F: Read + Seek + OpenFile>(
     alloc: Global,
     file: &mut F,
@@ -42,7 +43,11 @@ pub(crate) fn begin_part<F: Read + Seek + OpenFile>(
 {
     let Some(part) = part_of(alloc, file, places.as_slice())? else {
         keeping_is_transitive();
-        return Ok(BegunPart { places, length: 0 });
+        return Ok(BegunPart {
+            places,
+            start: 0,
+            length: 0,
+        });
     };
     let LogPart {
         start,
@@ -50,8 +55,11 @@ pub(crate) fn begin_part<F: Read + Seek + OpenFile>(
         place,
     } = part;
     let places = note_place(alloc, places, place)?;
-    file.seek(SeekFrom::Start(start))?;
-    Ok(BegunPart { places, length })
+    Ok(BegunPart {
+        places,
+        start,
+        length,
+    })
 }
 
 // The part that isn't counted, by these places. A log that begins like a place continues there. If

@@ -8,6 +8,7 @@ ghost use Rattle.log_tools.specs.Reports.{CountsLogs, HasReported, IsTextBy, IsT
 ghost use Rattle.markup.specs.WellFormed.{HasPicture};
 ghost use Rattle.report_page.specs.Pages.{HasPage};
 
+use crate::drawing::{Drawn, is_drawn, moment_if, page_if, picture_if};
 use crate::page_file::require_page;
 use crate::picture_file::{require_drawable, write_if};
 use crate::progress_lines::ProgressLines;
@@ -16,13 +17,12 @@ use bounded_files::ResourceFault;
 use jiff_core::Timestamp;
 use moments::{NamedTime, time_text};
 use report::{MetricKind, Report, Window, count_log};
-use report_page::page_text;
+use report_state::Faults;
 use std::alloc::{AllocError, Global};
 use std::fs::{self, File};
 use std::io::{self, Error, ErrorKind};
 use std::rt::Files;
 use std::time::{Clock, SystemTime, UNIX_EPOCH};
-use timeline::draw_course;
 
 /// The file of standard input, which is read in blocks.
 const STANDARD_INPUT: &str = "/dev/stdin";
@@ -75,20 +75,6 @@ where
     write_if(rt, picture, &output.picture)?;
     write_if(rt, page, &output.page)?;
     Ok(output)
-}
-
-// Which files a report has besides its text.
-#[derive(Clone, Copy)]
-struct Drawn {
-    picture: bool,
-    page: bool,
-}
-
-// Whether a report counts what its files draw.
-fn is_drawn(drawn: Drawn) -> bool
-    ensures { result ≡ drawn.picture || drawn.page }
-{
-    drawn.picture || drawn.page
 }
 
 // A report on no lines.
@@ -146,43 +132,19 @@ fn output_of(
     ensures page { IfOk result (λ output. HasPage drawn.page output.page) }
 {
     let picture = picture_if(alloc, drawn.picture, report)?;
-    let page = page_if(alloc, drawn.page, written, report)?;
+    let page = page_if(
+        alloc,
+        drawn.page,
+        report,
+        Faults::of_report(report),
+        written,
+    )?;
     let text = text_by(alloc, form, kind, report)?;
     Ok(ReportOutput {
         text,
         picture,
         page,
     })
-}
-
-fn picture_if(alloc: Global, drawn: bool, report: &Report) -> Result<Option<String>, AllocError>
-    ensures { IfOk result (HasPicture drawn) }
-{
-    if drawn {
-        Ok(Some(draw_course(alloc, report)?))
-    } else {
-        Ok(None)
-    }
-}
-
-// The present, if a page is written.
-fn moment_if(drawn: bool) -> Option<NamedTime> {
-    if drawn { Some(NamedTime::Ago(0)) } else { None }
-}
-
-fn page_if(
-    alloc: Global,
-    drawn: bool,
-    written: Option<&str>,
-    report: &Report,
-) -> Result<Option<String>, AllocError>
-    ensures { IfOk result (HasPage drawn) }
-{
-    if drawn {
-        Ok(Some(page_text(alloc, report, written)?))
-    } else {
-        Ok(None)
-    }
 }
 
 // In a window of time the counts go up and down.
@@ -195,7 +157,8 @@ fn kind_of(since: Option<NamedTime>, until: Option<NamedTime>) -> MetricKind
     }
 }
 
-fn text_of<'a>(text: &'a Option<String>) -> Option<&'a str>
+/// The text, if there is one.
+pub(crate) fn text_of<'a>(text: &'a Option<String>) -> Option<&'a str>
     ensures { option_copied result ≡ option_map string_bytes text.now }
 {
     match text {
@@ -204,9 +167,9 @@ fn text_of<'a>(text: &'a Option<String>) -> Option<&'a str>
     }
 }
 
-// The time of a moment, in the form of a log's lines.
+/// The time of a moment, in the form of a log's lines.
 #[tactic(auto, using(crate::proofs::Logs::by_clock))]
-fn time_of<R>(rt: &R, moment: Option<NamedTime>) -> Result<Option<String>, ResourceFault>
+pub(crate) fn time_of<R>(rt: &R, moment: Option<NamedTime>) -> Result<Option<String>, ResourceFault>
 where
     R: AllocGlobal + Clock,
     ensures { IfOk result (λ text. IsTimeIf moment (option_map string_bytes text)) }

@@ -99,6 +99,7 @@ pub(crate) fn begun_state(alloc: Global, found: Option<Vec<u8>>) -> Result<Repor
         return Ok(ReportState {
             report,
             places: Vec::new(alloc),
+            course: None,
         });
     };
     match read_state(alloc, bytes.as_slice()) {

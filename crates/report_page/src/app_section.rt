@@ -77,7 +77,7 @@ fn draw_versions(page: &mut Document, app: &AppCourse) {
     for later in 0..versions.len() {
         let index = versions.len().saturating_sub(later).saturating_sub(1);
         if let Some(version) = versions.get(index) {
-            draw_version(page, version, index, app.update_checks);
+            draw_version(page, version, index, app.asks);
         }
     }
     close_table(page);
@@ -100,7 +100,7 @@ fn installs_of(versions: &[VersionCourse]) -> u64 {
     installs
 }
 
-fn draw_version(page: &mut Document, version: &VersionCourse, index: usize, update_checks: u64) {
+fn draw_version(page: &mut Document, version: &VersionCourse, index: usize, asks: u64) {
     let counts = version.counts;
     page.open(Tag::TableRow);
     page.open(Tag::TableCell);
@@ -108,7 +108,7 @@ fn draw_version(page: &mut Document, version: &VersionCourse, index: usize, upda
     draw_name(page, version.version.as_str());
     page.close();
     number_cell(page, counts.asks);
-    share_cell(page, Class::Number, counts.asks, update_checks);
+    share_cell(page, Class::Number, counts.asks, asks);
     number_cell(page, counts.offers);
     number_cell(page, counts.installs);
     if version.newest.fails() {

@@ -2,15 +2,16 @@
 
 ghost use Rattle.std.specs.Prelude.{◌≡◌};
 
-use report::{AppQuestion, ChartQuestion, LineQuestion, Question, Report, Tally};
+use report::{AppQuestion, ChartQuestion, Question, Report};
+use report_state::Faults;
 use std::alloc::{AllocError, Global};
-use timeline::{Outcomes, VersionCourse, versions_of_app};
+use timeline::{Outcomes, VersionCourse, asks_of_app, versions_of_app};
 
-/// An app with its versions.
+/// An app with its versions, and the update checks of its course.
 #[derive(Drop)]
 pub(crate) struct AppCourse {
     pub appid: String,
-    pub update_checks: u64,
+    pub asks: u64,
     pub versions: Vec<VersionCourse>,
 }
 
@@ -52,12 +53,12 @@ impl<'a> Finding<'a> {
 pub(crate) fn apps_of(alloc: Global, report: &Report) -> Result<Vec<AppCourse>, AllocError> {
     let mut apps = Vec::new(alloc);
     if let Some(update_checks) = report.tally(Question::App(AppQuestion::UpdateCheck)) {
-        for (appid, count) in update_checks.rows().iter() {
+        for (appid, _count) in update_checks.rows().iter() {
             let appid = appid.as_str();
             let versions = versions_of_app(alloc, report, appid)?;
             apps.push(AppCourse {
                 appid: String::from_str(alloc, appid)?,
-                update_checks: *count,
+                asks: asks_of_app(report, appid)?,
                 versions,
             })?;
         }
@@ -69,6 +70,7 @@ pub(crate) fn apps_of(alloc: Global, report: &Report) -> Result<Vec<AppCourse>, 
 pub(crate) fn findings_of<'a>(
     alloc: Global,
     report: &Report,
+    faults: Faults,
     apps: &'a [AppCourse],
 ) -> Result<Vec<Finding<'a>>, AllocError> {
     let mut findings = Vec::new(alloc);
@@ -79,11 +81,11 @@ pub(crate) fn findings_of<'a>(
             }
         }
     }
-    note(&mut findings, Finding::Errors(errors_in(report)))?;
+    note(&mut findings, Finding::Errors(faults.errors))?;
     note(&mut findings, Finding::Rowless(rowless_in(report)))?;
-    note(&mut findings, Finding::Lost(report.lost))?;
-    note(&mut findings, Finding::Unknown(unknown_in(report)))?;
-    note(&mut findings, Finding::Foreign(report.foreign))?;
+    note(&mut findings, Finding::Lost(faults.lost))?;
+    note(&mut findings, Finding::Unknown(faults.unknown))?;
+    note(&mut findings, Finding::Foreign(faults.foreign))?;
     Ok(findings)
 }
 
@@ -108,39 +110,10 @@ fn note<'a>(findings: &mut Vec<Finding<'a>>, finding: Finding<'a>) -> Result<(),
     Ok(())
 }
 
-// The requests that were refused with a status from 500 on.
-fn errors_in(report: &Report) -> u64 {
-    let mut errors: u64 = 0;
-    if let Some(refusals) = report.tally(Question::Line(LineQuestion::Refusal)) {
-        for (name, count) in refusals.rows().iter() {
-            if name.as_str().starts_with('5') {
-                errors = errors.saturating_add(*count);
-            }
-        }
-    }
-    errors
-}
-
 // How often versions without a row were counted.
 fn rowless_in(report: &Report) -> u64 {
     match report.tally(Question::Chart(ChartQuestion::Versions)) {
         Some(versions) => versions.others(),
         None => 0,
     }
-}
-
-fn unknown_in(report: &Report) -> u64 {
-    match report.tally(Question::App(AppQuestion::Unknown)) {
-        Some(unknown) => all_of(unknown),
-        None => 0,
-    }
-}
-
-// All counts of a table.
-fn all_of(tally: &Tally) -> u64 {
-    let mut count = tally.others();
-    for (_name, n) in tally.rows().iter() {
-        count = count.saturating_add(*n);
-    }
-    count
 }

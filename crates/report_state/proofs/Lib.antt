@@ -1,3 +1,4 @@
+pub mod Added
 pub mod Continue
 pub mod Noted
 pub mod Kept

@@ -1,3 +1,4 @@
+pub mod Courses
 pub mod Places
 pub mod States
 pub mod Laws

@@ -1,5 +1,6 @@
--- The counts of a report as JSON (RFC 8259).
-use Rattle.std.specs.Prelude.{◌≡◌, ℕ, List, [], ◌∷◌, codes, Bool, Some, IsSomeAnd, string_bytes}
+-- The counts of a report and its course as JSON (RFC 8259).
+use Rattle.std.specs.Prelude.{◌≡◌, ℕ, List, [], ◌∷◌, codes, Bool, IsSomeAnd, string_bytes}
+use Rattle.std.specs.Prelude.{Option, Some, None}
 use Rattle.std.specs.List.{AllZip}
 use Rattle.json_value.specs.Bytes.{json_of}
 use Rattle.report.specs.LogEvents.{flag_in, list_in, number_in, text_in}
@@ -9,6 +10,8 @@ use Rattle.report.specs.declared.counting.Report.{Report}
 use Rattle.report.specs.declared.question.Question.{Question}
 use Rattle.report.specs.declared.question.TheConstants.{QUESTIONS}
 use Rattle.report.specs.declared.tally.Tally.{Tally}
+use Rattle.report_state.specs.declared.course.Course.{Course}
+use Rattle.report_state.specs.declared.course.CourseRows.{CourseRows}
 use Rattle.serde_json.specs.Data.{Data, Items, no_items, item}
 use Rattle.serde_json.specs.Find.{get}
 
@@ -69,3 +72,26 @@ HasCounts r d = IsSomeAnd (get (codes "counts") d) (IsReport r)
 -- the bytes of a state spell these counts
 abbrev pub SpellsCounts : List ℕ → Report → Type 0
 SpellsCounts bytes r = IsSomeAnd (json_of bytes) (HasCounts r)
+
+-- ---- the course
+
+-- {"from":29400000,"limit":65536,"others":0,"rows":[..]}
+pub record IsCourseRows (rows : CourseRows) (d : Data) : Type 0 where
+  pub from : HasNumber d (codes "from") rows.from
+  pub table : IsTable rows.tally d
+
+abbrev pub HasCourseRows : Data → List ℕ → CourseRows → Type 0
+HasCourseRows d name rows = IsSomeAnd (get name d) (IsCourseRows rows)
+
+-- {"hours":{..},"minutes":{..}}
+pub record IsCourse (course : Course) (d : Data) : Type 0 where
+  pub minutes : HasCourseRows d (codes "minutes") course.minutes
+  pub hours : HasCourseRows d (codes "hours") course.hours
+
+-- a state without a course has no such member
+abbrev pub HasCourse : Option Course → Data → Type 0
+HasCourse (Some course) d = IsSomeAnd (get (codes "course") d) (IsCourse course)
+HasCourse None d = get (codes "course") d ≡ None
+
+abbrev pub SpellsCourse : List ℕ → Option Course → Type 0
+SpellsCourse bytes course = IsSomeAnd (json_of bytes) (HasCourse course)

@@ -8,7 +8,8 @@ use report::{QUESTIONS, Question, Report, Tally, flag_in, list_in, number_in, te
 use serde_json::Value;
 use std::collections::BTreeMap;
 
-fn is_number(value: &Value, name: &str, number: u64) -> bool
+/// Whether the member of this name is the number.
+pub(crate) fn is_number(value: &Value, name: &str, number: u64) -> bool
     ensures { result ≡ true → specs.HasNumber (view value.now) name.now number }
 {
     match number_in(value, name) {
@@ -42,7 +43,8 @@ fn are_rows(values: &[Value], rows: &BTreeMap<String, u64>) -> bool
     left.is_empty()
 }
 
-fn is_table(value: &Value, tally: &Tally) -> bool
+/// Whether a value has the members of a table.
+pub(crate) fn is_table(value: &Value, tally: &Tally) -> bool
     ensures { result ≡ true → specs.IsTable tally.now (view value.now) }
 {
     match list_in(value, "rows") {

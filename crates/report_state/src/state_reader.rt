@@ -3,8 +3,10 @@
 ghost use Rattle.std.specs.Prelude.{IfOk, IfSome};
 ghost use Rattle.serde_json.specs.View.{view};
 ghost use Rattle.report_state.specs.Places.{AreApart};
-ghost use Rattle.report_state.specs.States.{HasCounts, SpellsCounts};
+ghost use Rattle.report_state.specs.States.{HasCounts, HasCourse, SpellsCounts, SpellsCourse};
 
+use crate::course::Course;
+use crate::course_text::{course_in, has_course};
 use crate::places::{LogPlace, places_in};
 use crate::spelling::has_counts;
 use json_value::read_json;
@@ -12,11 +14,13 @@ use report::{QUESTIONS, Question, Report, Tally, flag_in, list_in, number_in, te
 use serde_json::Value;
 use std::alloc::{AllocError, Global};
 
-/// What is counted, and the place in each log up to which it is.
+/// What is counted, the place in each log up to which it is, and what a page draws, if a call has
+/// begun to count it.
 #[derive(Drop)]
 pub struct ReportState {
     pub report: Report,
     pub places: Vec<LogPlace>,
+    pub course: Option<Course>,
 }
 
 fn fill_row(alloc: Global, value: &Value, tally: &mut Tally) -> Result<(), AllocError> {
@@ -29,8 +33,13 @@ fn fill_row(alloc: Global, value: &Value, tally: &mut Tally) -> Result<(), Alloc
     tally.set(String::from_str(alloc, name)?, count)
 }
 
-// Fills a table with what the member of this name says; if it is malformed, some rows are missing.
-fn fill(alloc: Global, counts: &Value, name: &str, tally: &mut Tally) -> Result<(), AllocError> {
+/// Fills a table with what the member of this name says; if it is malformed, some rows are missing.
+pub(crate) fn fill(
+    alloc: Global,
+    counts: &Value,
+    name: &str,
+    tally: &mut Tally,
+) -> Result<(), AllocError> {
     let Some(table) = counts.get(name) else {
         return Ok(());
     };
@@ -91,13 +100,23 @@ fn report_of(alloc: Global, state: &Value) -> Result<Option<Report>, AllocError>
 fn state_of(alloc: Global, state: &Value) -> Result<Option<ReportState>, AllocError>
     ensures counts { IfOk result
         (λ o. IfSome o (λ s. HasCounts s.report (view state.now))) }
+    ensures course { IfOk result
+        (λ o. IfSome o (λ s. HasCourse s.course (view state.now))) }
     ensures apart { IfOk result (λ o. IfSome o (λ s. AreApart s.places.items)) }
 {
     let Some(places) = places_in(alloc, state)? else {
         return Ok(None);
     };
+    let course = course_in(alloc, state)?;
+    if !has_course(state, course.as_ref()) {
+        return Ok(None);
+    }
     match report_of(alloc, state)? {
-        Some(report) => Ok(Some(ReportState { report, places })),
+        Some(report) => Ok(Some(ReportState {
+            report,
+            places,
+            course,
+        })),
         None => Ok(None),
     }
 }
@@ -109,6 +128,8 @@ fn state_of(alloc: Global, state: &Value) -> Result<Option<ReportState>, AllocEr
 pub fn read_state(alloc: Global, bytes: &[u8]) -> Result<Option<ReportState>, AllocError>
     ensures counts { IfOk result
         (λ o. IfSome o (λ state. SpellsCounts bytes.now state.report)) }
+    ensures course { IfOk result
+        (λ o. IfSome o (λ state. SpellsCourse bytes.now state.course)) }
     ensures apart { IfOk result (λ o. IfSome o (λ state. AreApart state.places.items)) }
 {
     match read_json(alloc, bytes)? {

@@ -1,8 +1,10 @@
 //! Writes a state: its text is made without a contract, and then it is read back.
 
-ghost use Rattle.std.specs.Prelude.{◌≡◌, IfOk, IfSome, string_bytes, true};
-ghost use Rattle.report_state.specs.States.{SpellsCounts};
+ghost use Rattle.std.specs.Prelude.{◌≡◌, IfOk, IfSome, option_map, string_bytes, true};
+ghost use Rattle.report_state.specs.States.{SpellsCounts, SpellsCourse};
 
+use crate::course::Course;
+use crate::course_text::{course_value, has_course};
 use crate::places::{LogPlace, place_values};
 use crate::spelling::has_counts;
 use json_value::{ObjectBuilder, read_json};
@@ -25,11 +27,16 @@ fn row_values(alloc: Global, tally: &Tally) -> Result<Vec<Value>, AllocError> {
     Ok(values)
 }
 
-fn put_table(alloc: Global, counts: &mut ObjectBuilder, name: &str, tally: &Tally) {
-    let mut table = ObjectBuilder::new(alloc);
+/// Adds the members of a table.
+pub(crate) fn put_members(alloc: Global, table: &mut ObjectBuilder, tally: &Tally) {
     table.put_number("limit", tally.limit() as u64);
     table.put_number("others", tally.others());
     table.put_list("rows", row_values(alloc, tally));
+}
+
+fn put_table(alloc: Global, counts: &mut ObjectBuilder, name: &str, tally: &Tally) {
+    let mut table = ObjectBuilder::new(alloc);
+    put_members(alloc, &mut table, tally);
     counts.put(name, table.finish());
 }
 
@@ -59,9 +66,17 @@ fn counts_value(alloc: Global, report: &Report) -> Result<Value, AllocError> {
     counts.finish()
 }
 
-fn text_of(alloc: Global, report: &Report, places: &[LogPlace]) -> Result<String, AllocError> {
+fn text_of(
+    alloc: Global,
+    report: &Report,
+    places: &[LogPlace],
+    course: Option<&Course>,
+) -> Result<String, AllocError> {
     let mut state = ObjectBuilder::new(alloc);
     state.put("counts", counts_value(alloc, report));
+    if let Some(course) = course {
+        state.put("course", course_value(alloc, course));
+    }
     state.put_list("logs", place_values(alloc, places));
     let state = state.finish()?;
     let printed = state.to_string(alloc);
@@ -71,13 +86,20 @@ fn text_of(alloc: Global, report: &Report, places: &[LogPlace]) -> Result<String
     Ok(text)
 }
 
-// Whether a text spells these counts.
-fn reads_back(alloc: Global, text: &str, report: &Report) -> Result<bool, AllocError>
-    ensures { IfOk result (λ ok. ok ≡ true → SpellsCounts text.now report.now) }
+// Whether a text spells these counts and this course.
+fn reads_back(
+    alloc: Global,
+    text: &str,
+    report: &Report,
+    course: Option<&Course>,
+) -> Result<bool, AllocError>
+    ensures counts { IfOk result (λ ok. ok ≡ true → SpellsCounts text.now report.now) }
+    ensures course { IfOk result (λ ok. ok ≡ true
+        → SpellsCourse text.now (option_map (λ c. c.now) course.entry)) }
 {
     match read_json(alloc, text.as_bytes())? {
         Some(value) => {
-            let spelled = has_counts(&value, report);
+            let spelled = has_counts(&value, report) && has_course(&value, course);
             drop(value);
             Ok(spelled)
         }
@@ -91,11 +113,15 @@ pub fn state_text(
     alloc: Global,
     report: &Report,
     places: &[LogPlace],
+    course: Option<&Course>,
 ) -> Result<Option<String>, AllocError>
-    ensures { IfOk result (λ o. IfSome o (λ text. SpellsCounts (string_bytes text) report.now)) }
+    ensures counts { IfOk result
+        (λ o. IfSome o (λ text. SpellsCounts (string_bytes text) report.now)) }
+    ensures course { IfOk result (λ o. IfSome o
+        (λ text. SpellsCourse (string_bytes text) (option_map (λ c. c.now) course.entry))) }
 {
-    let text = text_of(alloc, report, places)?;
-    if reads_back(alloc, text.as_str(), report)? {
+    let text = text_of(alloc, report, places, course)?;
+    if reads_back(alloc, text.as_str(), report, course)? {
         return Ok(Some(text));
     }
     Ok(None)

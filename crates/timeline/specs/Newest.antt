@@ -1,5 +1,5 @@
 -- The newest installs of a version, by which its failures are judged.
-use Rattle.std.specs.Prelude.{◌≡◌, ℕ, ◌+◌, ◌*◌, List, [], ◌∷◌, codes, Bool, ◌&&◌, nat_le, nat_lt}
+use Rattle.std.specs.Prelude.{ℕ, ◌+◌, ◌*◌, List, ◌∷◌, codes, Bool, ◌&&◌, nat_le, nat_lt}
 use Rattle.std.specs.Prelude.{if◌then◌else◌, sum}
 use Rattle.report.specs.Tallies.{Rows}
 use Rattle.timeline.specs.Bins.{counts_by_bin}
@@ -22,6 +22,12 @@ abbrev pub newest_of : Bins → Rows → (app version : List ℕ) → Outcomes
 newest_of bins rows app version =
     newest (counts_by_bin bins (of_version (of_all (codes "installs") app) version) rows)
     (counts_by_bin bins (of_version (of_all (codes "failures") app) version) rows)
+
+-- by these bins if they have 20 installs
+abbrev pub judged_by : Bins → Rows → (app version : List ℕ) → (others : Outcomes) → Outcomes
+judged_by bins rows app version others =
+    if nat_le 20 (Outcomes.installs (newest_of bins rows app version))
+    then newest_of bins rows app version else others
 
 -- a version fails if of 20 or more newest installs at least three failed, and above 5 percent
 abbrev pub fails : Outcomes → Bool

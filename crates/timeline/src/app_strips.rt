@@ -7,7 +7,7 @@ use crate::app_axis::{draw_axis, draw_heading};
 use crate::app_layers::{draw_offers, draw_shares};
 use crate::app_panel::PictureSource;
 use crate::bins::Bins;
-use crate::course::{course_of, source_of};
+use crate::course::{course_of, newest_course_of, source_of};
 use crate::page_strip::{caption, class_of, close_strip, open_strip};
 use crate::steps::{Step, areas, edges, share_of, steps_if};
 use crate::strips::steps_of_version;
@@ -17,7 +17,8 @@ use report::Report;
 use std::alloc::{AllocError, Global};
 
 /// Draws the course of an app: for each version the share of its own installs that failed, its
-/// offers, and its share of the update checks. Nothing if no update check has a readable time. Also
+/// offers, and its share of the update checks. Below is that of the newest minutes, if the first is
+/// by the hour for want of earlier ones. Nothing if no update check has a readable time. Also
 /// returns `AllocError` if a number overflows 64 bits.
 // open: what is drawn: people look at it.
 pub fn draw_app(
@@ -26,7 +27,10 @@ pub fn draw_app(
     report: &Report,
     app: &str,
 ) -> Result<(), AllocError> {
-    match course_of(report) {
+    if let Some(course) = course_of(report) {
+        draw_strips(alloc, page, &source_of(course), app)?;
+    }
+    match newest_course_of(report) {
         Some(course) => draw_strips(alloc, page, &source_of(course), app),
         None => Ok(()),
     }

@@ -24,17 +24,39 @@ pub(crate) struct Course<'a> {
 pub(crate) fn course_of<'a>(report: &'a Report) -> Option<Course<'a>>
     ensures { IfSome result (λ course. AreBins course.bins) }
 {
+    let by_minute = report.tally(Question::Chart(ChartQuestion::ByMinute))?;
+    let by_hour = report.tally(Question::Chart(ChartQuestion::ByHour))?;
+    if is_fine(by_minute) && !begins_later(by_minute, by_hour) {
+        course_by(report, by_minute, false)
+    } else {
+        course_by(report, by_hour, true)
+    }
+}
+
+/// The course of the newest minutes, if the report has left out earlier ones.
+pub(crate) fn newest_course_of<'a>(report: &'a Report) -> Option<Course<'a>>
+    ensures { IfSome result (λ course. AreBins course.bins) }
+{
+    let by_minute = report.tally(Question::Chart(ChartQuestion::ByMinute))?;
+    let by_hour = report.tally(Question::Chart(ChartQuestion::ByHour))?;
+    if is_fine(by_minute) && begins_later(by_minute, by_hour) {
+        course_by(report, by_minute, false)
+    } else {
+        None
+    }
+}
+
+// The course by these counts.
+fn course_by<'a>(report: &'a Report, counts: &'a Tally, by_hour: bool) -> Option<Course<'a>>
+    ensures { IfSome result (λ course. AreBins course.bins) }
+{
     let update_checks = report.tally(Question::App(AppQuestion::UpdateCheck))?;
     let loads = report.tally(Question::Line(LineQuestion::Load))?;
     let versions = report.tally(Question::Chart(ChartQuestion::Versions))?;
-    let by_minute = report.tally(Question::Chart(ChartQuestion::ByMinute))?;
-    let by_hour = report.tally(Question::Chart(ChartQuestion::ByHour))?;
     if update_checks.rows().is_empty() {
         return None;
     }
-    let fine = is_fine(by_minute);
-    let counts = if fine { by_minute } else { by_hour };
-    match bins_of_rows(counts, !fine) {
+    match bins_of_rows(counts, by_hour) {
         Some(bins) => Some(Course {
             update_checks,
             loads,
@@ -63,6 +85,15 @@ fn is_fine(by_minute: &Tally) -> bool {
         None => true,
     };
     short && by_minute.others() == 0
+}
+
+// Whether the minutes begin after the first hour.
+fn begins_later(by_minute: &Tally, by_hour: &Tally) -> bool {
+    match (reach_of(by_minute.rows()), reach_of(by_hour.rows())) {
+        (Some(minutes), Some(hours)) => minutes.least / 60 > hours.least,
+        (None, Some(_)) => true,
+        _ => false,
+    }
 }
 
 /// The data that is drawn.

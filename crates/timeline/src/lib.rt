@@ -35,4 +35,4 @@ pub use legend::VersionCounts;
 pub use newest::Outcomes;
 pub use page_strip::class_of;
 pub use picture::draw_course;
-pub use version_course::{VersionCourse, versions_of_app};
+pub use version_course::{VersionCourse, asks_of_app, versions_of_app};

@@ -46,6 +46,26 @@ pub(crate) fn newest_of<'a>(
     newest(installs.as_slice(), failures.as_slice())
 }
 
+/// The newest installs of a version by these bins, if they have 20; else `others`.
+pub(crate) fn judged_by<'a>(
+    alloc: Global,
+    source: &PictureSource<'_>,
+    app: &'a str,
+    version: &'a str,
+    others: Outcomes,
+) -> Result<Outcomes, AllocError>
+    requires { AreBins source.now.bins }
+    ensures { IfOk result (λ o. o ≡ specs.judged_by source.now.bins source.now.rows.now.entries
+        app.now version.now others) }
+{
+    let newest = newest_of(alloc, source, app, version)?;
+    Ok(if newest.installs >= 20 {
+        newest
+    } else {
+        others
+    })
+}
+
 fn newest(installs: &[u64], failures: &[u64]) -> Result<Outcomes, AllocError>
     ensures { IfOk result (λ o. o ≡ specs.newest installs.now failures.now) }
 {

@@ -5,9 +5,10 @@ ghost use Rattle.timeline.specs.Bins.{AreBins};
 ghost use Rattle.timeline.specs.Courses.{IsVersionCourse};
 
 use crate::app_panel::PictureSource;
-use crate::course::{course_of, source_of};
+use crate::course::{course_of, newest_course_of, source_of};
 use crate::legend::{VersionCounts, counts_of_version};
-use crate::newest::{Outcomes, newest_of};
+use crate::marks::{Series, drawn_count};
+use crate::newest::{Outcomes, judged_by, newest_of};
 use crate::versions::versions_in_rows;
 use report::Report;
 use std::alloc::{AllocError, Global};
@@ -28,9 +29,40 @@ pub fn versions_of_app(
     report: &Report,
     app: &str,
 ) -> Result<Vec<VersionCourse>, AllocError> {
+    let Some(course) = course_of(report) else {
+        return Ok(Vec::new(alloc));
+    };
+    let mut versions = versions_in(alloc, &source_of(course), app)?;
+    if let Some(newest) = newest_course_of(report) {
+        judge_each(alloc, &mut versions, &source_of(newest), app)?;
+    }
+    Ok(versions)
+}
+
+// Judges each version by these bins, if they have enough of its installs.
+fn judge_each(
+    alloc: Global,
+    versions: &mut Vec<VersionCourse>,
+    source: &PictureSource<'_>,
+    app: &str,
+) -> Result<(), AllocError>
+    requires { AreBins source.now.bins }
+{
+    for version in versions.iter_mut() {
+        let outcomes = version.newest;
+        let judged = judged_by(alloc, source, app, version.version.as_str(), outcomes)?;
+        version.newest = judged;
+    }
+    Ok(())
+}
+
+/// The update checks of an app in its course. Also returns `AllocError` if the number overflows 64
+/// bits.
+// open: of which course: rows.
+pub fn asks_of_app(report: &Report, app: &str) -> Result<u64, AllocError> {
     match course_of(report) {
-        Some(course) => versions_in(alloc, &source_of(course), app),
-        None => Ok(Vec::new(alloc)),
+        Some(course) => drawn_count(course.counts.rows(), Series::of_all("asks", app)),
+        None => Ok(0),
     }
 }
 

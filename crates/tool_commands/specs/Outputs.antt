@@ -75,8 +75,9 @@ module _ (known : KnownFiles) where
       HasReported (length args.logs.items) args.since args.until (form_of args)
       (is_some args.picture) (is_some args.page) report
       × HasCounters args (string_bytes counters)
-  IsOutput (command.Report args) (output.Continued text counters) =
-      IsSome args.state × HasContinued (length args.logs.items) (form_of args) (string_bytes text)
+  IsOutput (command.Report args) (output.Continued report counters) =
+      IsSome args.state × HasContinued (length args.logs.items) (form_of args)
+      (is_some args.picture) (is_some args.page) report
       × HasCounters args (string_bytes counters)
   IsOutput (command.Simulate args) (output.Simulated simulation passes) =
       HasSimulated known args.json (client_of args.app) args.manifest.now

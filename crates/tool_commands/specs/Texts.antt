@@ -21,7 +21,8 @@ use Rattle.tool_commands.specs.declared.output.ToolOutput.TheVariants as output
 abbrev pub output_text : ToolOutput → List ℕ
 output_text (output.Checked checked) = string_bytes checked.text
 output_text (output.Completed text) = string_bytes text
-output_text (output.Continued text counters) = string_bytes text ++ string_bytes counters
+output_text (output.Continued report counters) =
+    string_bytes report.text ++ string_bytes counters
 output_text (output.Diffed diff does) = string_bytes diff.text
 output_text (output.Explained text) = string_bytes text
 output_text (output.Ordered program) = line (decimal (length program.items / 8) ++ codes " slots")

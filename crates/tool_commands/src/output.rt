@@ -21,7 +21,7 @@ pub(crate) enum ToolOutput {
     },
     /// The report on logs, with the counts of earlier calls; and the text of a server's counters.
     Continued {
-        text: String,
+        report: ReportOutput,
         counters: String,
     },
     /// The comparison of two manifests, and whether it passes.
@@ -100,7 +100,9 @@ impl fmt::Display for ToolOutput {
         match self {
             ToolOutput::Checked(output) => f.write_str(output.text.as_str()),
             ToolOutput::Completed { text } => f.write_str(text),
-            ToolOutput::Continued { text, counters } => write!(f, "{text}{counters}"),
+            ToolOutput::Continued { report, counters } => {
+                write!(f, "{}{counters}", report.text.as_str())
+            }
             ToolOutput::Diffed { output, .. } => f.write_str(output.text.as_str()),
             ToolOutput::Explained { text } => f.write_str(text),
             ToolOutput::Ordered { program } => {

@@ -54,8 +54,8 @@ where
         heads: args.heads,
     };
     if let Some(state) = args.state {
-        return match report_on_state(rt, logs, state, form) {
-            Ok(text) => Ok(ToolOutput::Continued { text, counters }),
+        return match report_on_state(rt, logs, state, form, args.picture, args.page) {
+            Ok(report) => Ok(ToolOutput::Continued { report, counters }),
             Err(fault) => Err(Fault::Report(fault)),
         };
     }

@@ -17,11 +17,10 @@ abbrev pub LacksNamedTime : Option Text → Type 0
 LacksNamedTime None = ⊥
 LacksNamedTime (Some text) = NamesNone text
 
--- `--state` with a moment, a picture or a page
+-- `--state` with a moment
 abbrev pub MixesState : List Row → Type 0
 MixesState rows = IsSome (first_of (codes "state") rows)
-    × (IsSome (first_of (codes "since") rows) ⊎ IsSome (first_of (codes "until") rows)
-    ⊎ IsSome (first_of (codes "svg") rows) ⊎ IsSome (first_of (codes "html") rows))
+    × (IsSome (first_of (codes "since") rows) ⊎ IsSome (first_of (codes "until") rows))
 
 -- a report on logs, from one moment on and before another, or from the counts so far; with a
 -- server's counters, if its port is given

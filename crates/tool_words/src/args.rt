@@ -64,8 +64,7 @@ pub struct ReportArgs<'a> {
     pub picture: Option<&'a str>,
     /// The file for a page in HTML.
     pub page: Option<&'a str>,
-    /// The file of the counts so far, which the report continues. Not with a moment, a chart or a
-    /// page.
+    /// The file of the counts so far, which the report continues. Not with a moment.
     pub state: Option<&'a str>,
     /// Whether each group of lines has a head line.
     pub heads: bool,

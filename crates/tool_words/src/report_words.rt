@@ -43,15 +43,11 @@ pub(crate) fn read_report<'a>(
     }))
 }
 
-// Whether `--state` is given with a moment, a picture or a page.
+// Whether `--state` is given with a moment.
 fn mixes_state(found: &ArgMatches<'_>) -> bool
     ensures { IsTrue result ↔ MixesState (rows_of (found_of found.now)) }
 {
-    has_value(found, "state")
-        && (has_value(found, "since")
-            || has_value(found, "until")
-            || has_value(found, "svg")
-            || has_value(found, "html"))
+    has_value(found, "state") && (has_value(found, "since") || has_value(found, "until"))
 }
 
 fn has_value(found: &ArgMatches<'_>, id: &str) -> bool

@@ -1,5 +1,5 @@
 use Rattle.log_tools.proofs.Logs.{more_logs, no_logs}
-use Rattle.log_tools.proofs.continuing.count_parts.Goals as goal
+use Rattle.log_tools.proofs.new_lines.count_parts.Goals as goal
 
 pub loop-path-init : goal.loop-path-init
 loop-path-init g c = (

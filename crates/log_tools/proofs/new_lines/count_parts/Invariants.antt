@@ -1,6 +1,6 @@
 use Rattle.report_state.specs.Places.{KeepsApart}
 use Rattle.log_tools.specs.Reports.{CountsLogs}
-use Rattle.log_tools.proofs.continuing.count_parts.Given as goal
+use Rattle.log_tools.proofs.new_lines.count_parts.Given as goal
 
 -- the parts of the logs so far are counted, and no place is forgotten
 abbrev pub invariant-loop-path : goal.invariant-loop-path
