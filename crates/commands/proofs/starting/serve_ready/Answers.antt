@@ -3,7 +3,7 @@ use Rattle.commands.specs.declared.output.CommandOutput.TheVariants.{Ready}
 use Rattle.commands.proofs.Opened.{opens_so}
 use Rattle.commands.proofs.starting.serve_ready.Goals as goal
 
-pub serve_keeping-requires : goal.serve_keeping-requires
-serve_keeping-requires g c κs within =
+pub serve_keeping-requires-clause-opens : goal.serve_keeping-requires-clause-opens
+serve_keeping-requires-clause-opens g c κs within =
     opens_so (g.D.Disk.known c.args.disk.now) (Some c.in-Ok.field-0.file.said.value)
     c.args.command.now c.in-Ok.field-0.server c.args.plan.now c.in-Ok.ensures
