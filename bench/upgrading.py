@@ -1,10 +1,12 @@
 """Checks docs/INSTALL.md: the upgrade that loses no request. It runs the page's commands and the
 template unit, with only paths and ports changed, while clients send requests through nginx without
-a pause. The next server goes on with the counters of the one before it.
+a pause. The next server goes on with the counters of the one before it. A client that sends slowly
+and more clients than may wait are tried, too.
 
 systemctl is replaced by a script that runs the unit's commands as systemd does. If a command isn't
 installed, the check is skipped with that name.
 """
+import contextlib
 import os
 import re
 import shutil
@@ -15,8 +17,9 @@ import stat
 import subprocess
 import threading
 import time
+from functools import partial
 
-from hosts import ASK, HEAD, OFFERED, PATIENCE, PORTS, Host
+from hosts import ASK, HEAD, OFFERED, PATIENCE, PORTS, ROOT, Host
 from hosts import awaited, line_of, needs, placed, rest, section
 from proxying import TLS, nginx_words, proxied_by
 
@@ -25,6 +28,10 @@ CLIENTS = 6
 # The site allows six polls a minute for each address.
 QUICK = [("rate=6r/m", "rate=9999r/s"), ("burst=20", "burst=9999")]
 LEAST = 3000
+# The page's line for nginx.conf, with how long old workers of nginx may live.
+SHUTDOWN = re.compile(r"`(worker_shutdown_timeout (\d+)s;)`")
+# The connections that wait for the next server, and how many are tried.
+QUEUE, MANY = 128, 200
 
 STARTS = """"enable --now rollout@{it}")
     {pre} >/dev/null || exit 1
@@ -44,6 +51,10 @@ class Site:
     def __init__(self, top):
         self.host = host = Host(top)
         self.nginx = nginx_words(host, QUICK)
+        line, seconds = SHUTDOWN.search((ROOT / "docs" / "INSTALL.md").read_text()).groups()
+        self.longest, configuration = int(seconds), top / "nginx.conf"
+        text = configuration.read_text().replace("connections 256", "connections 1024")
+        configuration.write_text(f"{line}\n{text}")
         cases = [self.cases(it, host.file("rollout@.service", it)) for it in ("8", "9")]
         cases = "".join([*cases, '"reload nginx") nginx -s reload ;;\n', "*) exit 1 ;;\n"])
         (top / "bin").mkdir()
@@ -96,12 +107,18 @@ class Load:
         self.context = ssl.create_default_context(cafile=host.top / "etc" / "ssl" / "rollout.pem")
         self.over, self.whole, self.lost = threading.Event(), [0] * CLIENTS, []
 
-    def ask(self):
+    @contextlib.contextmanager
+    def sent(self, body):
+        """A connection on which a head and this much of the body are sent."""
         with socket.create_connection(("127.0.0.1", TLS), timeout=PATIENCE) as plain:
             with self.context.wrap_socket(plain, server_hostname="127.0.0.1") as stream:
                 head = HEAD.replace("\r\n\r\n", "\r\nHost: 127.0.0.1\r\nConnection: close\r\n\r\n")
-                stream.sendall((head + ASK).encode())
-                return rest(stream)
+                stream.sendall((head + body).encode())
+                yield stream
+
+    def ask(self):
+        with self.sent(ASK) as stream:
+            return rest(stream)
 
     def client(self, place):
         while not self.over.is_set():
@@ -155,17 +172,63 @@ def wrong_upgrade(site):
     print(f"    0 lost of {sum(load.whole)}, of them {during} in the {took:.1f} s of the commands")
 
 
-def upgrade(folder):
-    """The page's commands, under load."""
+def wrong_slow(site):
+    """A client that has sent half of its request keeps nginx's old worker as long as the page says,
+    and no request of others is lost."""
+    with Load(site.host) as load:
+        awaited(lambda: sum(load.whole) > 0)
+        with load.sent(ASK[:20]):
+            begun = time.monotonic()
+            if (found := site.run(section("INSTALL.md", TITLE)[0]))[0] != 0:
+                return f"{found}"
+            took, whole = time.monotonic() - begun, sum(load.whole)
+        awaited(lambda: sum(load.whole) > whole + CLIENTS)
+    if load.lost:
+        return f"{len(load.lost)} lost of {sum(load.whole)}: {load.lost[0]}"
+    if not site.longest - 1 < took < site.longest + 10:
+        return f"the commands took {took:.1f} s"
+    print(f"    0 lost of {sum(load.whole)}, though the commands took {took:.1f} s")
+
+
+def wrong_many(site):
+    """While a client keeps nginx's old worker, many others at once: as many as the next server's
+    queue holds are answered, and the rest get a 504."""
+    load, found, replies = Load(site.host), [], []
+    site_of_nginx = site.host.top / "etc" / "nginx" / "conf.d" / "rollout.conf"
+    upgrade = threading.Thread(target=lambda: found.append(
+        site.run(section("INSTALL.md", TITLE)[0])))
+    many = [threading.Thread(target=lambda: replies.append(load.ask()[9:12])) for _ in range(MANY)]
+    with load.sent(ASK[:20]):
+        upgrade.start()
+        awaited(lambda: PORTS["8090"] in site_of_nginx.read_text())
+        time.sleep(1)
+        for it in many:
+            it.start()
+        for it in (*many, upgrade):
+            it.join()
+    if found[0][0] != 0:
+        return f"{found}"
+    counts = {it: replies.count(it) for it in sorted({*replies})}
+    if counts.get("200", 0) < QUEUE or counts.get("200", 0) + counts.get("504", 0) != MANY:
+        return f"{counts} of {MANY}"
+    print(f"    {counts} of {MANY} at once")
+
+
+def upgraded(wrong, folder):
+    """The page's commands, with nginx before the servers."""
     needs("nginx", "openssl", "pgrep")
-    site = Site(folder / "upgrade")
+    site = Site(folder / wrong.__name__)
     with proxied_by(site.host, site.nginx):
         try:
             if (found := site.run("systemctl enable --now rollout@8"))[0] != 0:
                 return f"{found}"
-            return wrong_upgrade(site)
+            return wrong(site)
         finally:
             site.end()
 
 
-UPGRADES = {"the upgrade of docs/INSTALL.md": upgrade}
+UPGRADES = {
+    "the upgrade of docs/INSTALL.md": partial(upgraded, wrong_upgrade),
+    "the upgrade, with a client that sends slowly": partial(upgraded, wrong_slow),
+    "the upgrade, with more clients than may wait": partial(upgraded, wrong_many),
+}
