@@ -124,6 +124,9 @@ def archives(folder):
     more = {it.removeprefix("usr/") for it in UNITS} | {"share/doc/rollout/copyright"}
     if files(place / "deb" / "usr") != INSTALLED | more:
         return f"{files(place / 'deb')}"
+    odd = [it for it, text in tree(place / "deb").items() if "/opt/rollout" in (text or "")]
+    if odd != ["usr/share/rollout/examples/deploy/Dockerfile"]:
+        return f"for another place: {odd}"
 
 
 def request(port):

@@ -61,19 +61,26 @@ def write_archive(folder):
         set_in_place(file, folder / file.name)
 
 
+def below_usr(text):
+    return text.replace("/opt/rollout/", "/usr/")
+
+
 def unit(name):
     """A unit with the package's paths, and without what the package does at its install."""
     text = (DEPLOY / name).read_text()
     done = ("#   install ", "#   cp rollout")
     lines = [it for it in text.splitlines() if not it.startswith(done)]
     text = "\n".join(lines) + "\n"
-    text = text.replace("#   systemctl daemon-reload && ", "#   ")
-    return text.replace("/opt/rollout/", "/usr/")
+    return below_usr(text.replace("#   systemctl daemon-reload && ", "#   "))
 
 
 def lay_out(tree):
     """The files of the package at their places, and the files for dpkg."""
     copy_all(tree / "usr")
+    for it in (tree / "usr" / "share" / "rollout" / "examples" / "deploy").iterdir():
+        # An image has an install at its own place.
+        if it.name != "Dockerfile":
+            it.write_text(below_usr(it.read_text()))
     for it in FOLDERS:
         (tree / it).mkdir(parents=True)
     texts = {it.name: it.read_text() for it in DEBIAN.iterdir()}
