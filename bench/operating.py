@@ -100,6 +100,12 @@ def asking():
     return section("OPERATING.md", "What is being served")[1]
 
 
+def before_halt():
+    """The commands that make a copy of the folder as it was before its last step, a halt."""
+    text = (ROOT / "docs" / "OPERATING.md").read_text()
+    return re.search(r"`(then=\$\(mktemp -d\) .*?)`", text)[1]
+
+
 def wrong_stages(day):
     """Raises a stage, halts it, and undoes both."""
     raising, moves, _ = section("OPERATING.md", "Raising a stage")
@@ -119,6 +125,8 @@ def wrong_stages(day):
         return f"halting: {said}"
     if NOTHING not in (said := day.run(ask)):
         return f"after a halt: {said}"
+    if "< 2500 offer 1;" not in (said := day.run(f"{before_halt()} && cat $then/editor.rule")):
+        return f"before the halt: {said}"
     return wrong_status(day)
 
 
