@@ -83,6 +83,9 @@ def lost_files():
 def lost_lines():
     for path, lines in DIFF.findall(PAGE.read_text()):
         kept = (ROOT / path).read_text().splitlines()
-        for it in re.findall(r"^[ -](.+)$", lines, re.M):
+        # Once the exercise is made, the lines that it takes out are gone.
+        added = re.findall(r"^\+(?!\+\+ )(.+)$", lines, re.M)
+        marks = " " if all(it in kept for it in added) else "[ -]"
+        for it in re.findall(rf"^{marks}(.+)$", lines, re.M):
             if it not in kept:
                 yield f"{PAGE.name}: {path} has no line {it.strip()}"
