@@ -1,3 +1,4 @@
 mod GoesOn
 mod Then
 mod Whole
+mod Unedited

@@ -2,4 +2,5 @@ pub mod Apps
 pub mod Drift
 pub mod Replaced
 pub mod Served
+pub mod Unedited
 pub mod Whole

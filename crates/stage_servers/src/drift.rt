@@ -90,7 +90,7 @@ pub(crate) fn strange_app(server: &Surveyed) -> Option<&str> {
     }
 }
 
-fn is_halt(action: &StageAction<'_>) -> bool
+pub(crate) fn is_halt(action: &StageAction<'_>) -> bool
     ensures { result ≡ specs.is_halt action.now }
 {
     match *action {
@@ -105,7 +105,7 @@ fn is_halt(action: &StageAction<'_>) -> bool
     }
 }
 
-fn is_back(action: &StageAction<'_>) -> bool
+pub(crate) fn is_back(action: &StageAction<'_>) -> bool
     ensures { result ≡ specs.is_back action.now }
 {
     match *action {
@@ -291,19 +291,15 @@ fn push_another(stderr: &mut TextBuffer, port: u16, appid: &str) {
 }
 
 // Adds that a server isn't loaded by a halt, and whether it has halted the app.
-fn push_spared(stderr: &mut TextBuffer, server: &Surveyed, appid: &str, manifest: &str) {
+fn push_spared(stderr: &mut TextBuffer, server: &Surveyed, appid: &str) {
     stderr.push_number("server at ", server.port as u64, ": not loaded, it serves ");
     push_serves(stderr, &server.serves);
-    if !server.halts(appid) {
-        stderr.push_printed("; ", appid, " isn't halted there (--anyway loads it)\n");
-        return;
-    }
-    stderr.push_printed(
-        "; ",
-        appid,
-        " is halted there, until a restart loads the files: ",
-    );
-    stderr.push_printed("call rollout check ", manifest, "\n");
+    let end = if server.halts(appid) {
+        " is halted there all the same (--anyway loads it, and all else that has changed)\n"
+    } else {
+        " isn't halted there (--anyway loads it, and all else that has changed)\n"
+    };
+    stderr.push_printed("; ", appid, end);
 }
 
 /// Whether a server is left without a load of these apps, with a line that says why: another
@@ -335,7 +331,7 @@ where
     };
     let is_spared = !call.options.anyway && changes_more(folder, &server.serves, own);
     if is_spared {
-        push_spared(&mut lines.stderr, server, appid, call.manifest);
+        push_spared(&mut lines.stderr, server, appid);
     }
     is_spared
 }

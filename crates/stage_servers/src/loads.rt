@@ -9,7 +9,8 @@ use crate::options::StageCall;
 use crate::outcome::Lines;
 use crate::removed_apps::{apps_shown, push_removed};
 use crate::server_halts::{offer_others_at, resume_at};
-use crate::serves::server_at;
+use crate::server_state::halted_in;
+use crate::serves::{push_halted, server_at};
 use bounded_files::Disk;
 use load::{CollectedManifest, collect_manifest};
 use operator::{RequestFault, ask_server};
@@ -42,6 +43,25 @@ pub(crate) fn push_fault(text: &mut TextBuffer, port: u16, fault: RequestFault, 
     drop(fault);
 }
 
+// Adds the apps that the server at a port halts now, by its state, or else as it was surveyed.
+fn push_halts<R, D>(call: &StageCall<'_, R, D>, port: u16, text: &mut TextBuffer)
+where
+    R: AllocGlobal + Net<Stream = TcpStream>,
+{
+    match ask_server(call.rt, OperatorRequest::State, port) {
+        Ok(reply) => match halted_in(call.rt.alloc(), reply.as_str()) {
+            Ok(halted) => push_halted(text, &halted),
+            Err(_) => text.leave_out(),
+        },
+        Err(fault) => {
+            drop(fault);
+            if let Some(server) = server_at(call.servers, port) {
+                push_halted(text, &server.halted);
+            }
+        }
+    }
+}
+
 // Has the server at a port load the manifest. Returns its reply, if it did.
 fn load_at<R, D>(call: &StageCall<'_, R, D>, port: u16, lines: &mut Lines) -> Option<String>
 where
@@ -51,9 +71,7 @@ where
         Ok(reply) => {
             lines.text.push_number("server at ", port as u64, ": ");
             lines.text.push(reply.as_str().trim_end());
-            if let Some(server) = server_at(call.servers, port) {
-                server.push_halted(&mut lines.text);
-            }
+            push_halts(call, port, &mut lines.text);
             lines.text.push("\n");
             Some(reply)
         }
@@ -109,37 +127,34 @@ where
     true
 }
 
-// Has the server at a port load the manifest, unless it is spared. Returns whether it loaded.
-fn load_unless_spared<R, D, F>(
+// Whether the server at a port is left without a load, with a line that says why.
+fn is_left_out<R, D, F>(
     call: &StageCall<'_, R, D>,
     folder: &F,
     port: u16,
     collected: Option<&CollectedManifest>,
     action: &StageAction<'_>,
-    notes: &mut String,
     lines: &mut Lines,
 ) -> bool
 where
-    R: AllocGlobal + Net<Stream = TcpStream>,
     F: StageFolder,
 {
     let apps = match collected {
         Some(collected) => collected.sources.apps.as_slice(),
         None => &[],
     };
-    if let Some(server) = server_at(call.servers, port)
-        && is_spared(call, folder, server, action, apps, lines)
-    {
-        return false;
+    match server_at(call.servers, port) {
+        Some(server) => is_spared(call, folder, server, action, apps, lines),
+        None => false,
     }
-    load_noted(call, port, collected, notes, lines)
 }
 
-// What became of the loads: the ports of the servers that have none, each after a space, and
-// whether the others offer again what they were to offer.
+// What became of the loads: the ports of the servers that didn't load, each after a space; whether
+// a server was left without a load; and whether the others offer again what they were to offer.
 #[derive(Drop)]
 struct Loads {
     refused: String,
+    has_left_out: bool,
     are_resumed: bool,
 }
 
@@ -159,6 +174,22 @@ where
         StageAction::HaltRelease { appid, .. } => offer_others_at(rt, port, appid, lines),
         _ => resume_at(rt, port, lifted, lines),
     }
+}
+
+// Whether each server loaded the manifest.
+fn is_complete(loads: &Loads) -> bool {
+    loads.refused.is_empty() && !loads.has_left_out
+}
+
+// Adds the ports of the servers that didn't load the manifest, if there are any, and what to do.
+fn push_refused(stderr: &mut TextBuffer, refused: &str, manifest: &str) {
+    if refused.is_empty() {
+        return;
+    }
+    stderr.push("stage: not loaded at");
+    stderr.push(refused);
+    let advice = "; the files are in place: mend that, and then call rollout load ";
+    stderr.push_printed(advice, manifest, "\n");
 }
 
 // Adds that an app stays halted if a halt of one release isn't loaded.
@@ -189,9 +220,11 @@ where
         return Err(AllocError);
     };
     let mut refused = TextBuffer::new(call.rt.alloc());
-    let mut are_resumed = true;
+    let (mut has_left_out, mut are_resumed) = (false, true);
     for port in call.options.ports() {
-        if load_unless_spared(call, folder, *port, collected, action, &mut notes, lines) {
+        if is_left_out(call, folder, *port, collected, action, lines) {
+            has_left_out = true;
+        } else if load_noted(call, *port, collected, &mut notes, lines) {
             are_resumed = offered_at(call.rt, *port, action, lifted, lines) && are_resumed;
         } else {
             refused.push_number(" ", *port as u64, "");
@@ -203,6 +236,7 @@ where
     let refused = refused.finish()?;
     Ok(Loads {
         refused,
+        has_left_out,
         are_resumed,
     })
 }
@@ -229,12 +263,9 @@ where
     let each = load_each(call, folder, collected.as_ref(), action, lifted, lines);
     drop(collected);
     match each {
-        Ok(loads) if loads.refused.is_empty() => loads.are_resumed,
+        Ok(loads) if is_complete(&loads) => loads.are_resumed,
         Ok(loads) => {
-            lines.stderr.push("stage: not loaded at");
-            lines.stderr.push(loads.refused.as_str());
-            let advice = "; the files are in place: mend that, and then call rollout load ";
-            lines.stderr.push_printed(advice, call.manifest, "\n");
+            push_refused(&mut lines.stderr, loads.refused.as_str(), call.manifest);
             push_stays(&mut lines.stderr, action);
             false
         }

@@ -24,6 +24,9 @@ pub struct Lines {
     halted_at: Vec<u16>,
 }
 
+// What holds of a halt that isn't in the files, and what to do.
+const RESTARTS: &str = ", over a restart only with --counters: mend this, and call it again\n";
+
 /// Why nothing more is done.
 #[derive(Drop)]
 pub enum Stop {
@@ -102,11 +105,11 @@ impl Lines {
         if self.halted_at.is_empty() {
             return;
         }
-        self.stderr.push("stage: halted until a restart at");
+        self.stderr.push("stage: halted until rollout resume at");
         for port in &self.halted_at {
             self.stderr.push_number(" ", *port as u64, "");
         }
-        self.stderr.push(": mend this, and call it again (rollout resume lifts it)\n");
+        self.stderr.push(RESTARTS);
     }
 
     /// Continues in spite of a refusal, if `--anyway` is given.

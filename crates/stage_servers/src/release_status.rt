@@ -8,6 +8,7 @@ use load::AppSources;
 use printing::TextBuffer;
 use stage_records::{StagingStep, StepAction};
 use staging::known_offer;
+use std::alloc::Global;
 
 // The version of this app that a step halts, unless it is undone.
 fn version_of<'a>(step: &'a StagingStep, appid: &str) -> Option<&'a str> {
@@ -38,8 +39,27 @@ fn is_halted_later(steps: &[StagingStep], number: u32, appid: &str, version: &st
 }
 
 // Whether an app's file surely offers a version.
-fn is_offered(standing: &Standing<'_>, app: &AppSources, version: &str) -> bool {
-    matches!(known_offer(standing.alloc, app, version), Ok(Some(true)))
+fn is_offered(alloc: Global, app: &AppSources, version: &str) -> bool {
+    matches!(known_offer(alloc, app, version), Ok(Some(true)))
+}
+
+/// The last of these steps that halts a release of an app which its file doesn't surely offer, and
+/// the version of that release.
+// open: which one; rows show it.
+pub fn halted_release<'a>(
+    alloc: Global,
+    steps: &'a [StagingStep],
+    app: &AppSources,
+) -> Option<(u32, &'a str)> {
+    let mut last = None;
+    for step in steps {
+        if let Some(version) = version_of(step, app.entry.appid())
+            && !is_offered(alloc, app, version)
+        {
+            last = Some((step.number, version));
+        }
+    }
+    last
 }
 
 /// Adds a line of each halted release of an app, which its file doesn't offer.
@@ -53,7 +73,7 @@ pub(crate) fn push_releases(
     for step in standing.steps {
         if let Some(version) = version_of(step, appid)
             && !is_halted_later(standing.steps, step.number, appid, version)
-            && !is_offered(standing, app, version)
+            && !is_offered(standing.alloc, app, version)
         {
             text.push(indent);
             text.push_printed("", version, " HALTED ");

@@ -10,7 +10,7 @@ use crate::options::StageCall;
 use crate::outcome::Lines;
 use crate::quota_lines::push_quotas;
 use crate::served::{InPlace, Served, are_both};
-use crate::serves::{Serves, Surveyed, server_at};
+use crate::serves::{Serves, Surveyed, push_halted, server_at};
 use crate::surveying::survey;
 use bounded_files::Disk;
 use cell_assignments::read_assignments;
@@ -54,7 +54,7 @@ fn push_known(text: &mut TextBuffer, server: &Surveyed) -> bool {
     if !is_in_place {
         text.push(", not what is in place: load it");
     }
-    server.push_halted(text);
+    push_halted(text, &server.halted);
     text.push("\n");
     is_in_place
 }

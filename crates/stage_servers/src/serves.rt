@@ -56,14 +56,14 @@ impl Surveyed {
         }
         false
     }
+}
 
-    /// Adds the apps that it halts by its own word, if there are any.
-    pub(crate) fn push_halted(&self, text: &mut TextBuffer) {
-        let mut mark = ", halted: ";
-        for halted in &self.halted {
-            text.push_printed(mark, halted.as_str(), "");
-            mark = ", ";
-        }
+/// Adds the apps that a server halts by its own word, if there are any.
+pub(crate) fn push_halted(text: &mut TextBuffer, appids: &[String]) {
+    let mut mark = ", halted: ";
+    for halted in appids {
+        text.push_printed(mark, halted.as_str(), "");
+        mark = ", ";
     }
 }
 

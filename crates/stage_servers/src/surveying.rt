@@ -288,8 +288,10 @@ where
     R: AllocGlobal + Net<Stream = TcpStream>,
     D: Disk,
     F: StageFolder,
-    ensures { IfOk result (λ servers.
+    ensures surveyed { IfOk result (λ servers.
         All (IsSurveyed (D.known call.now.disk.now) call.now.manifest.now) servers.items) }
+    ensures none { IfOk result (λ servers.
+        call.now.options.now.no_load ≡ true → servers.items ≡ []) }
 {
     if call.options.no_load {
         return Ok(Vec::new(call.rt.alloc()));
