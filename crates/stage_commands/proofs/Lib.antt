@@ -1,3 +1,4 @@
+mod Accepted
 mod Opening
 mod Plans
 mod Left

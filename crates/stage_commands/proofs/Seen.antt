@@ -1,13 +1,17 @@
 -- An action that only looks is planned and done by changing nothing; one that changes files isn't a
 -- look.
-use Rattle.std.proofs.Common.{◌≡◌, refl, sym, ℕ, List, true, false, true≢false}
+use Rattle.std.proofs.Common.{◌≡◌, ◌∙◌, ap, refl, sym, ℕ, List, [], true, false, true≢false}
+use Rattle.std.specs.Prelude.{◌||◌, ◌&&◌, not}
 use Rattle.bounded_files.specs.Files.{KnownFiles}
 use Rattle.stage_folder.specs.Folders.{KnownFolder, KnownRecords}
 use Rattle.stage_records.specs.declared.action.StageAction.{StageAction}
 use Rattle.stage_records.specs.declared.action.StageAction.TheVariants as action
+use Rattle.stage_servers.specs.Drift.{is_back, is_halt}
+use Rattle.stage_servers.specs.Unedited.{IsUnedited, compares_files}
 use Rattle.stage_servers.specs.Whole.{IsSeenWhole, only_looks}
 use Rattle.stage_servers.specs.declared.options.StageOptions.{StageOptions}
-use Rattle.stage_commands.specs.Actions.{IsStaged}
+use Rattle.stage_servers.specs.declared.serves.Surveyed.{Surveyed}
+use Rattle.stage_commands.specs.Actions.{HasNoEdits, IsStaged}
 use Rattle.stage_commands.specs.Planned.{IsPlanned}
 
 pub planned : (known : KnownFiles) (manifest : List ℕ) (options : StageOptions)
@@ -54,3 +58,18 @@ unseen records files (action.HaltRelease appid version) looks = tt
 unseen records files (action.Raise appid buckets) looks = tt
 unseen records files (action.Put next) looks = tt
 unseen records files (action.Resume appid buckets) looks = tt
+
+-- an action that only looks compares no file
+pub not_compared : (options : StageOptions) (records : KnownRecords) (files : KnownFolder)
+    (did : StageAction) → only_looks did ≡ true → HasNoEdits options did records files
+not_compared options records files did looks = λ apart compared.
+    absurd (true≢false (sym compared
+    ∙ ap (λ l. not (l || is_halt did || options.anyway) && true) looks))
+
+-- none was edited, if no server is surveyed
+pub unedited : (options : StageOptions) (records : KnownRecords) (files : KnownFolder)
+    (did : StageAction) (servers : List Surveyed) → (options.no_load ≡ true → servers ≡ [])
+    → (compares_files options did servers ≡ true → IsUnedited (is_back did) records files)
+    → HasNoEdits options did records files
+unedited options records files did servers none is = λ apart compared.
+    is (ap (compares_files options did) (none apart) ∙ compared)

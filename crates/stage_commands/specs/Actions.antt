@@ -1,5 +1,5 @@
 -- What an action of `stage` does to the files and records of a folder.
-use Rattle.std.specs.Prelude.{◌≡◌, ◌⊎◌, List, ℕ}
+use Rattle.std.specs.Prelude.{◌≡◌, ◌⊎◌, List, [], ℕ, true}
 use Rattle.bounded_files.specs.Files.{KnownFiles}
 use Rattle.stage_folder.specs.Folders.{KnownFolder, KnownRecords}
 use Rattle.stage_commands.specs.Backs.{HasGoneBack}
@@ -10,6 +10,8 @@ use Rattle.stage_commands.specs.Resumes.{HasResumed}
 use Rattle.stage_commands.specs.Taken.{IsLeft}
 use Rattle.stage_records.specs.declared.action.StageAction.{StageAction}
 use Rattle.stage_records.specs.declared.action.StageAction.TheVariants as action
+use Rattle.stage_servers.specs.Drift.{is_back}
+use Rattle.stage_servers.specs.Unedited.{IsUnedited, compares_files}
 use Rattle.stage_servers.specs.declared.options.StageOptions.{StageOptions}
 
 -- nothing has changed
@@ -43,3 +45,9 @@ module _ (known : KnownFiles) (manifest : List ℕ) (options : StageOptions) whe
       → (old new : KnownFolder) → Type 0
   IsStagedOrLeft action old_records new_records old new =
       IsStaged action old_records new_records old new ⊎ IsLeft old_records new_records old new
+
+-- without a server, and without `--anyway`, an action but a halt is done only if no file was edited
+-- since the steps
+abbrev pub HasNoEdits : StageOptions → StageAction → KnownRecords → KnownFolder → Type 0
+HasNoEdits options action records files = options.no_load ≡ true
+    → compares_files options action [] ≡ true → IsUnedited (is_back action) records files

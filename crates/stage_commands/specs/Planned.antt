@@ -1,5 +1,5 @@
 -- What is known of an action before it changes a file: so it is done, or for `--dry-run` would be.
-use Rattle.std.specs.Prelude.{ℕ, List, Option}
+use Rattle.std.specs.Prelude.{ℕ, List, Option, IfSome}
 use Rattle.bounded_files.specs.Files.{KnownFiles}
 use Rattle.stage_folder.specs.Folders.{KnownFolder, KnownRecords}
 use Rattle.stage_folder.specs.declared.records.RecordedSteps.{RecordedSteps}
@@ -8,6 +8,7 @@ use Rattle.stage_records.specs.declared.action.StageAction.{StageAction}
 use Rattle.stage_records.specs.declared.action.StageAction.TheVariants as action
 use Rattle.stage_servers.specs.declared.options.StageOptions.{StageOptions}
 use Rattle.stage_commands.specs.Backs.{PlansBack}
+use Rattle.stage_commands.specs.Compared.{IsAcceptedWith}
 use Rattle.stage_commands.specs.Puts.{PlansPut}
 use Rattle.stage_commands.specs.ReleaseHalts.{PlansReleaseHalt}
 use Rattle.stage_commands.specs.Resumes.{PlansResume}
@@ -25,21 +26,22 @@ module _ (known : KnownFiles) (manifest : List ℕ) (options : StageOptions)
       × PlansReleaseHalt known manifest appid version options files file
 
   abbrev pub IsRaisePlanned : (appid : List ℕ) → (buckets : ℕ) → Type 0
-  IsRaisePlanned appid buckets =
-      (file : Option ReplacedFile) × PlansRaise known manifest appid buckets options files file
+  IsRaisePlanned appid buckets = (file : Option ReplacedFile)
+      × PlansRaise known manifest appid buckets options files file
+      × IfSome file (IsAcceptedWith known manifest)
 
   abbrev pub IsResumePlanned : (appid : List ℕ) → (buckets : Option ℕ) → Type 0
   IsResumePlanned appid buckets = (recorded : RecordedSteps) × AreAllRead records recorded
       × ((file : Option ReplacedFile) × PlansResume known manifest appid buckets options files
-      recorded.steps.items file)
+      recorded.steps.items file × IfSome file (IsAcceptedWith known manifest))
 
   abbrev pub IsPutPlanned : (next : List ℕ) → Type 0
   IsPutPlanned next = (recorded : RecordedSteps) × AreAllRead records recorded
       × ((replaced : List ReplacedFile) × PlansPut known manifest next files recorded.steps.items
       options.anyway replaced)
 
-  -- which file halts, raises or resumes the app, which files a manifest has, or which step is to be
-  -- undone
+  -- which file halts, raises or resumes the app, with which the manifest isn't refused (but for a
+  -- halt), which files a manifest has, or which step is to be undone
   abbrev pub IsPlanned : StageAction → Type 0
   IsPlanned (action.Halt appid) = IsHaltPlanned appid.now
   IsPlanned (action.HaltRelease appid version) = IsReleaseHaltPlanned appid.now version.now

@@ -1,7 +1,7 @@
 //! One action of `stage`, from the folder to the servers.
 
 ghost use Rattle.std.specs.Prelude.{◌≡◌, IfErr, IfOk, OnOk, false, true};
-ghost use Rattle.stage_commands.specs.Actions.{IsStaged, IsStagedOrLeft, IsUnchanged};
+ghost use Rattle.stage_commands.specs.Actions.{HasNoEdits, IsStaged, IsStagedOrLeft, IsUnchanged};
 ghost use Rattle.stage_commands.specs.Planned.{IsPlanned};
 ghost use Rattle.stage_commands.specs.Taken.{LeftBy};
 ghost use Rattle.stage_servers.specs.Whole as specs;
@@ -18,7 +18,7 @@ use stage_folder::StageFolder;
 use stage_records::StageAction;
 use stage_servers::{
     Lines, StageCall, StageOptions, StageOutcome, Stop, Surveyed, apps_halted, apps_lifted,
-    load_all, push_history, push_status, stop_if_drifted, survey,
+    load_all, push_history, push_status, stop_if_drifted, stop_if_edited, survey,
 };
 use std::alloc::AllocError;
 use std::net::{Net, TcpStream};
@@ -69,7 +69,8 @@ struct Found {
     halted: Vec<String>,
 }
 
-// The same; or why the action stops, by what a server serves.
+// The same; or why the action stops, by what a server serves, or by a file that was edited since.
+#[tactic(auto, using(crate::proofs::Seen::unedited))]
 fn found_before<R, D, F>(
     call: &StageCall<'_, R, D>,
     folder: &F,
@@ -80,11 +81,17 @@ where
     R: AllocGlobal + Net<Stream = TcpStream>,
     D: Disk,
     F: StageFolder,
+    ensures { OnOk result (HasNoEdits call.now.options.now action.now
+        (F.records folder.now) (F.files folder.now)) }
 {
     let Ok(servers) = survey(call, folder, action) else {
         return Err(Stop::Memory);
     };
     if let Err(stop) = stop_if_drifted(call, folder, &servers, action, lines) {
+        drop(servers);
+        return Err(stop);
+    }
+    if let Err(stop) = stop_if_edited(call, folder, &servers, action, lines) {
         drop(servers);
         return Err(stop);
     }
@@ -115,6 +122,8 @@ where
         → IsStaged (D.known call.now.disk.now) call.now.manifest.now call.now.options.now
         action.now (F.records folder.old) (F.records folder.new) (F.files folder.old)
         (F.files folder.new)) }
+    ensures unedited { OnOk result (HasNoEdits call.now.options.now action.now
+        (F.records folder.old) (F.files folder.old)) }
     ensures stopped { IfErr result (λ stop. LeftBy stop (F.records folder.old)
         (F.records folder.new) (F.files folder.old) (F.files folder.new)) }
     ensures unchanged { call.now.options.now.dry_run ≡ true → IsUnchanged (F.records folder.old)
@@ -184,7 +193,7 @@ where
 
 // Prints the status or the history; or changes the files, and has the servers load the manifest.
 // Returns whether all is done.
-#[tactic(auto, using(crate::proofs::Left::unchanged_by, crate::proofs::Seen::unseen))]
+#[tactic(auto, using(crate::proofs::Left::unchanged_by, crate::proofs::Seen::unseen, crate::proofs::Seen::not_compared))]
 fn act<R, D, F>(
     call: &StageCall<'_, R, D>,
     folder: &mut F,
@@ -202,6 +211,8 @@ where
         action.now (F.records folder.old) (F.records folder.new) (F.files folder.old)
         (F.files folder.new)) }
     ensures seen { IfOk result (λ is_done. is_done ≡ true → IsSeenWhole action.now
+        (F.records folder.old) (F.files folder.old)) }
+    ensures unedited { OnOk result (HasNoEdits call.now.options.now action.now
         (F.records folder.old) (F.files folder.old)) }
     ensures stopped { IfErr result (λ stop. LeftBy stop (F.records folder.old)
         (F.records folder.new) (F.files folder.old) (F.files folder.new)) }
@@ -243,6 +254,8 @@ where
         (F.records folder.old) (F.records folder.new) (F.files folder.old) (F.files folder.new)) }
     ensures seen { IfOk result (λ outcome. outcome.is_done ≡ true → IsSeenWhole action.now
         (F.records folder.old) (F.files folder.old)) }
+    ensures unedited { IfOk result (λ outcome. outcome.is_done ≡ true → HasNoEdits options.now
+        action.now (F.records folder.old) (F.files folder.old)) }
     ensures left { options.now.dry_run ≡ false → IsStagedOrLeft (D.known disk.now) manifest.now
         options.now action.now (F.records folder.old) (F.records folder.new)
         (F.files folder.old) (F.files folder.new) }
@@ -288,6 +301,8 @@ where
         (F.records folder.old) (F.records folder.new) (F.files folder.old) (F.files folder.new)) }
     ensures seen { IfOk result (λ outcome. outcome.is_done ≡ true → IsSeenWhole action.now
         (F.records folder.old) (F.files folder.old)) }
+    ensures unedited { IfOk result (λ outcome. outcome.is_done ≡ true → HasNoEdits options.now
+        action.now (F.records folder.old) (F.files folder.old)) }
     ensures left { options.now.dry_run ≡ false → IsStagedOrLeft (D.known disk.now) manifest.now
         options.now action.now (F.records folder.old) (F.records folder.new)
         (F.files folder.old) (F.files folder.new) }

@@ -1,5 +1,5 @@
 //! Opening the folder of an action of `stage`. A halt is sent to the servers first, and once more
-//! when the folder is locked.
+//! when the folder is locked, or couldn't be.
 
 use crate::actions::stage_on;
 use crate::locking::{end_work, lock_for, note_work};
@@ -32,10 +32,11 @@ where
     D: Disk,
     F: StageFolder,
 {
-    if let Err(stop) = lock_for(rt, folder, action, options) {
+    let locked = lock_for(rt, folder, action, options);
+    halt_again(rt, action, &lines);
+    if let Err(stop) = locked {
         return lines.into_stopped(stop);
     }
-    halt_again(rt, action, &lines);
     let Ok(manifest) = manifest_in(rt.alloc(), folder.path()) else {
         drop(lines);
         return Err(AllocError);

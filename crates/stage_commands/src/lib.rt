@@ -12,7 +12,8 @@
 // nothing is changed meanwhile: the file that halts an app (`app_halts.rt`), a rule with another
 // number (`raises.rt`), the one from before a halt (`resumes.rt`), the files of another manifest
 // (`puts.rt`). All but a halt are compared with what the servers serve (`comparison.rt`,
-// `served_rows.rt`). The plan is a step, which is recorded and then performed (`taking.rt`).
+// `served_rows.rt`), and their rules are warned of as `check` does (`warned.rt`). The plan is a
+// step, which is recorded and then performed (`taking.rt`).
 //
 // Then each server loads the manifest (`stage_servers`), also if nothing had to be replaced.
 //
@@ -42,6 +43,7 @@ mod served_rows;
 mod steps;
 mod stop_texts;
 mod taking;
+mod warned;
 
 pub use actions::stage_in;
 pub use folder_opening::stage;

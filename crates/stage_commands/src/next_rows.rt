@@ -1,11 +1,13 @@
 //! For whom another file of an app changes what is served.
 
-ghost use Rattle.std.specs.Prelude.{IfOk};
-ghost use Rattle.stage_commands.specs.Compared.{AreAllJudged};
+ghost use Rattle.std.specs.Prelude.{IfOk, IfSome, OnOk};
+ghost use Rattle.load.specs.Opened.{IsCollected};
+ghost use Rattle.stage_commands.specs.Compared.{AreAllJudged, IsAcceptedWith, IsJudgedWith};
 
 use crate::comparison::compare;
 use crate::judged::{judged, judged_at};
 use crate::stop_texts::next_refused;
+use crate::warned::push_warnings_of;
 use bounded_files::Disk;
 use load::{CollectedManifest, JudgedManifest};
 use stage_records::ReplacedFile;
@@ -16,6 +18,7 @@ use std::slice;
 use std::time::Clock;
 
 // The manifest in place, with another file.
+#[tactic(auto, using(crate::proofs::Accepted::judged_with))]
 fn judged_with<D: Disk>(
     alloc: Global,
     disk: &D,
@@ -23,7 +26,9 @@ fn judged_with<D: Disk>(
     bytes: &[u8],
     file: &ReplacedFile,
 ) -> Result<JudgedManifest, Stop>
-    ensures { IfOk result AreAllJudged }
+    ensures judged { IfOk result AreAllJudged }
+    ensures accepted { IfOk result (λ judged. IsJudgedWith (D.known disk.now) manifest.now
+        bytes.now file.now judged) }
 {
     let replaced = slice::from_ref(file);
     let sources = match sources_with(alloc, disk, manifest, bytes, replaced, true) {
@@ -36,8 +41,9 @@ fn judged_with<D: Disk>(
     }
 }
 
-/// Prints what changes by another file. A lost row is a refusal, unless `--anyway` is given.
-pub(crate) fn compare_with<R, D>(
+// Prints what changes by another file, and what `check` warns of in it.
+#[tactic(auto, using(crate::proofs::Accepted::accepted_with))]
+fn compare_by<R, D>(
     call: &StageCall<'_, R, D>,
     collected: CollectedManifest,
     file: &ReplacedFile,
@@ -46,6 +52,9 @@ pub(crate) fn compare_with<R, D>(
 where
     R: AllocGlobal + Clock + Net<Stream = TcpStream>,
     D: Disk,
+    requires { IsCollected (D.known call.now.disk.now) call.now.manifest.now collected }
+    ensures { OnOk result
+        (IsAcceptedWith (D.known call.now.disk.now) call.now.manifest.now file.now) }
 {
     let alloc = call.rt.alloc();
     let CollectedManifest { bytes, sources } = collected;
@@ -59,10 +68,43 @@ where
     let next = judged_with(alloc, call.disk, call.manifest, &bytes, file);
     drop(bytes);
     match next {
-        Ok(new) => compare(call, old, new, lines),
+        Ok(new) => {
+            push_warnings_of(alloc, &new.apps, slice::from_ref(file), lines);
+            match compare(call, old, new, lines) {
+                Ok(()) => Ok(()),
+                Err(stop) => Err(stop),
+            }
+        }
         Err(stop) => {
             drop(old);
             Err(stop)
+        }
+    }
+}
+
+/// Prints what changes by another file, and what `check` warns of in it, if there is one. A lost
+/// row is a refusal, unless `--anyway` is given.
+pub(crate) fn compare_with<R, D>(
+    call: &StageCall<'_, R, D>,
+    collected: CollectedManifest,
+    file: &Option<ReplacedFile>,
+    lines: &mut Lines,
+) -> Result<(), Stop>
+where
+    R: AllocGlobal + Clock + Net<Stream = TcpStream>,
+    D: Disk,
+    requires { IsCollected (D.known call.now.disk.now) call.now.manifest.now collected }
+    ensures { OnOk result (IfSome file.now
+        (IsAcceptedWith (D.known call.now.disk.now) call.now.manifest.now)) }
+{
+    match file {
+        Some(file) => match compare_by(call, collected, file, lines) {
+            Ok(()) => Ok(()),
+            Err(stop) => Err(stop),
+        },
+        None => {
+            drop(collected);
+            Ok(())
         }
     }
 }

@@ -16,6 +16,7 @@ use crate::lifting::stop_if_lifted;
 use crate::put_files::files_to_put;
 use crate::steps::{number_in, owned_text, read_steps};
 use crate::taking::take_step;
+use crate::warned::push_warnings_of;
 use bounded_files::Disk;
 use load::{AppSources, CollectedManifest, JudgedManifest};
 use stage_folder::{StageFolder, steps_leave};
@@ -173,6 +174,7 @@ where
     let files = files?;
     let lifted = lifted?;
     stop_if_lifted(alloc, lifted, call.options.anyway, lines)?;
+    push_warnings_of(alloc, &next.apps, &files, lines);
     compare_next(call, present, next, lines)?;
     Ok(files)
 }

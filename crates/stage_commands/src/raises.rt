@@ -1,11 +1,13 @@
 //! `stage raise`: the number of the one threshold in the app's rule is changed.
 
-ghost use Rattle.std.specs.Prelude.{◌≡◌, IfErr, IfOk, OnOk, Some, false, string_bytes, true};
+ghost use Rattle.std.specs.Prelude.{◌≡◌, IfErr, IfOk, IfSome, OnOk, Some, false, string_bytes};
+ghost use Rattle.std.specs.Prelude.{true};
 ghost use Rattle.bounded_files.specs.Files.{KnownFiles};
 ghost use Rattle.load.specs.Opened.{IsCollected};
 ghost use Rattle.manifest.specs.App.{file_of};
 ghost use Rattle.staging.specs.Raises.{IsRaised};
 ghost use Rattle.stage_commands.specs.Actions.{IsUnchanged};
+ghost use Rattle.stage_commands.specs.Compared.{IsAcceptedWith};
 ghost use Rattle.stage_commands.specs.Planned.{IsRaisePlanned};
 ghost use Rattle.stage_commands.specs.Stages.{HasRaised, PlansRaise, PlansRaiseOf};
 ghost use Rattle.stage_commands.specs.Taken.{LeftBy};
@@ -129,23 +131,24 @@ where
     R: Files + AllocGlobal + Clock + Net<Stream = TcpStream>,
     D: Disk,
     F: StageFolder,
-    ensures { IfOk result (PlansRaise (D.known call.now.disk.now) call.now.manifest.now appid.now
-        buckets call.now.options.now (F.files folder.now)) }
+    ensures planned { IfOk result (PlansRaise (D.known call.now.disk.now)
+        call.now.manifest.now appid.now buckets call.now.options.now (F.files folder.now)) }
+    ensures accepted { IfOk result (λ file. IfSome file
+        (IsAcceptedWith (D.known call.now.disk.now) call.now.manifest.now)) }
 {
     let collected = match collected_at(call.rt.alloc(), call.disk, call.manifest) {
         Ok(collected) => collected,
         Err(stop) => return Err(stop),
     };
-    let file = file_by(call, folder, &collected, appid, buckets, lines);
-    let compared = match &file {
-        Ok(Some(file)) => compare_with(call, collected, file, lines),
-        _ => {
+    let file = match file_by(call, folder, &collected, appid, buckets, lines) {
+        Ok(file) => file,
+        Err(stop) => {
             drop(collected);
-            Ok(())
+            return Err(stop);
         }
     };
-    match compared {
-        Ok(()) => Ok(file?),
+    match compare_with(call, collected, &file, lines) {
+        Ok(()) => Ok(file),
         Err(stop) => {
             drop(file);
             Err(stop)

@@ -1,10 +1,11 @@
 //! `stage resume`: the app's file gets what it had before its last halt, or that rule with another
 //! number in its threshold.
 
-ghost use Rattle.std.specs.Prelude.{◌≡◌, IfErr, IfOk, OnOk, false, true};
+ghost use Rattle.std.specs.Prelude.{◌≡◌, IfErr, IfOk, IfSome, OnOk, false, true};
 ghost use Rattle.bounded_files.specs.Files.{KnownFiles};
 ghost use Rattle.load.specs.Opened.{IsCollected};
 ghost use Rattle.stage_commands.specs.Actions.{IsUnchanged};
+ghost use Rattle.stage_commands.specs.Compared.{IsAcceptedWith};
 ghost use Rattle.stage_commands.specs.Planned.{IsResumePlanned};
 ghost use Rattle.stage_commands.specs.Resumes.{HasResumed, PlansResume};
 ghost use Rattle.stage_commands.specs.Taken.{LeftBy};
@@ -17,20 +18,33 @@ use crate::restored::NOT_COMPARED;
 use crate::resumed_file::resumed_file_of;
 use crate::served_rows::judged_with_files;
 use crate::steps::{number_in, owned_text, read_steps};
-use crate::stop_texts::NOT_HALTED;
+use crate::stop_texts::{NOT_HALTED, release_halted};
 use crate::taking::take_file;
 use bounded_files::Disk;
-use load::CollectedManifest;
+use load::{AppSources, CollectedManifest};
 use manifest_diff::OpenedBoth;
 use stage_folder::StageFolder;
 use stage_records::{ReplacedFile, StagingStep, StepAction};
-use stage_servers::{Lines, StageCall, Stop, collected_at, file_named, refusal_of, replaced_file};
+use stage_servers::{
+    Lines, StageCall, Stop, app_named, collected_at, file_named, halted_release, refusal_of,
+    replaced_file,
+};
 use staging::{is_resumable, last_halt};
 use std::alloc::{AllocError, Global};
 use std::net::{Net, TcpStream};
 use std::rt::Files;
 use std::slice;
 use std::time::Clock;
+
+// Says that no halt is to be lifted, or that only an earlier one of a release is in force.
+fn not_halted(alloc: Global, steps: &[StagingStep], apps: &[AppSources], appid: &str) -> Stop {
+    if let Some(app) = app_named(apps, appid)
+        && let Some((number, version)) = halted_release(alloc, steps, app)
+    {
+        return release_halted(alloc, appid, version, number);
+    }
+    refusal_of(alloc, appid, NOT_HALTED)
+}
 
 // Refuses an app of which no recorded halt is in force, and no release is halted last.
 fn stop_unless_halted(
@@ -45,7 +59,7 @@ fn stop_unless_halted(
     if is_resumable(steps, &collected.sources.apps, appid) {
         return Ok(());
     }
-    Err(refusal_of(alloc, appid, NOT_HALTED))
+    Err(not_halted(alloc, steps, &collected.sources.apps, appid))
 }
 
 // What resumes an app of the manifest in place, if its halt is in force.
@@ -120,19 +134,25 @@ fn compare_resumed<R, D>(
     call: &StageCall<'_, R, D>,
     collected: CollectedManifest,
     was: Option<&[u8]>,
-    file: &ReplacedFile,
+    file: &Option<ReplacedFile>,
     lines: &mut Lines,
 ) -> Result<(), Stop>
 where
     R: AllocGlobal + Clock + Net<Stream = TcpStream>,
     D: Disk,
+    requires { IsCollected (D.known call.now.disk.now) call.now.manifest.now collected }
+    ensures { OnOk result (IfSome file.now
+        (IsAcceptedWith (D.known call.now.disk.now) call.now.manifest.now)) }
 {
-    match compare_with(call, collected, file, lines) {
-        Ok(()) => match was {
-            Some(was) => compare_before(call, was, file, lines),
-            None => Ok(()),
+    if let Err(stop) = compare_with(call, collected, file, lines) {
+        return Err(stop);
+    }
+    match (was, file) {
+        (Some(was), Some(file)) => match compare_before(call, was, file, lines) {
+            Ok(()) => Ok(()),
+            Err(stop) => Err(stop),
         },
-        Err(stop) => Err(stop),
+        _ => Ok(()),
     }
 }
 
@@ -140,12 +160,17 @@ where
 fn compared_bytes<'a>(
     steps: &'a [StagingStep],
     appid: &str,
-    name: &str,
+    file: &Option<ReplacedFile>,
     buckets: Option<u32>,
 ) -> Option<&'a [u8]> {
     let _number = buckets?;
+    let Some(file) = file else {
+        return None;
+    };
     let step = last_halt(steps, appid)?;
-    file_named(&step.files, name)?.before.as_deref()
+    file_named(&step.files, file.name.as_str())?
+        .before
+        .as_deref()
 }
 
 // The file that resumes the app, once it is compared.
@@ -161,26 +186,26 @@ where
     R: Files + AllocGlobal + Clock + Net<Stream = TcpStream>,
     D: Disk,
     F: StageFolder,
-    ensures { IfOk result (PlansResume (D.known call.now.disk.now) call.now.manifest.now
-        appid.now buckets call.now.options.now (F.files folder.now) steps.now) }
+    ensures planned { IfOk result (PlansResume (D.known call.now.disk.now)
+        call.now.manifest.now appid.now buckets call.now.options.now (F.files folder.now)
+        steps.now) }
+    ensures accepted { IfOk result (λ file. IfSome file
+        (IsAcceptedWith (D.known call.now.disk.now) call.now.manifest.now)) }
 {
     let collected = match collected_at(call.rt.alloc(), call.disk, call.manifest) {
         Ok(collected) => collected,
         Err(stop) => return Err(stop),
     };
-    let file = file_by(call, folder, &collected, steps, appid, buckets, lines);
-    let compared = match &file {
-        Ok(Some(file)) => {
-            let was = compared_bytes(steps, appid, file.name.as_str(), buckets);
-            compare_resumed(call, collected, was, file, lines)
-        }
-        _ => {
+    let file = match file_by(call, folder, &collected, steps, appid, buckets, lines) {
+        Ok(file) => file,
+        Err(stop) => {
             drop(collected);
-            Ok(())
+            return Err(stop);
         }
     };
-    match compared {
-        Ok(()) => Ok(file?),
+    let was = compared_bytes(steps, appid, &file, buckets);
+    match compare_resumed(call, collected, was, &file, lines) {
+        Ok(()) => Ok(file),
         Err(stop) => {
             drop(file);
             Err(stop)

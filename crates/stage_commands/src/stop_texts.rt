@@ -98,6 +98,20 @@ pub(crate) fn no_app(alloc: Global, appid: &str, apps: &[AppSources]) -> Stop {
     refusal(text)
 }
 
+/// No halt of the app is in force but that of a release, which an earlier step halted.
+pub(crate) fn release_halted(alloc: Global, appid: &str, version: &str, number: u32) -> Stop {
+    let mut text = TextBuffer::new(alloc);
+    text.push_printed("the last halt of ", appid, " is lifted, but ");
+    text.push_printed("", version, " is still halted ");
+    text.push_number(
+        "by step ",
+        number as u64,
+        ": put the rule that you want in place ",
+    );
+    text.push("(--anyway lifts that halt, too)");
+    refusal(text)
+}
+
 /// Another app has the same file.
 pub(crate) fn one_file(alloc: Global, file: &str, other: &str) -> Stop {
     let mut text = TextBuffer::new(alloc);
