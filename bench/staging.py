@@ -433,11 +433,11 @@ def halts_in_trouble(folder):
         locked = wrong("another call", "wait until it has ended; no file has changed\n")
         os.close(held)
         in_the_way(it, "editor.rule")
-        full = wrong("a stopped step", "stage: halted until a restart at 18098")
+        full = wrong("a stopped step", "stage: halted until rollout resume at 18098")
         for number in range(100):
             (it.folder / f"editor.rule.{number}.new").unlink()
         it.write("other.rule", "no rule")
-        refused = wrong("another app's rule", "until a restart loads the files: call rollout check")
+        refused = wrong("another app's rule", "is halted there all the same (--anyway loads it")
         it.write("other.rule", RULE % 9)
         it.stage("back --anyway --no-load")
     return locked or full or refused

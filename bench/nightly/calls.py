@@ -4,7 +4,8 @@ from dataclasses import dataclass, field
 # What a stop says, by its reason.
 STOPS = {
     "other": r"is another one: it serves",
-    "drift": r"serves (step \d|what was there|a step that is undone|what no step)|was edited since",
+    "drift": r"serves (step \d|what was there|a step that is undone|what no step)|was edited since|"
+             r"isn't as step \d+ left it",
     "record": r"is no record of",
     "app": r"has no app",
     "shared": r"is the file of app",
@@ -14,7 +15,7 @@ STOPS = {
     "lifts": r"this lifts the halt of",
     "refused": r"is refused|is no file|can't be|isn't|no such",
     "none": r"no step is left",
-    "unhalted": r"isn't halted by a step",
+    "unhalted": r"isn't halted by a step|is still halted by step",
     "again": r"was replaced again since",
     "edited": r"it was edited since the step",
 }

@@ -53,6 +53,18 @@ def left_by_steps(night):
     return {name: text for name, text in files.items() if text is not None}
 
 
+def is_edited(night, call):
+    """Whether a file isn't as the last step left it that replaced it. `back` looks at the files of
+    the step that it undoes by itself."""
+    seen, done = set(), [it for it in night.steps if not it.is_undone and not it.is_damaged]
+    for place, step in enumerate(reversed(done)):
+        if call.word != "back" or place > 0:
+            if any(night.files.get(it) != step.after[it] for it in step.after if it not in seen):
+                return True
+        seen |= set(step.after)
+    return False
+
+
 def known_apps(night, plan):
     """The apps in place before a call and after it."""
     texts = [night.files.get("current.toml"), plan.files.get("current.toml")]
@@ -65,8 +77,13 @@ def is_other(night, known, server):
 
 
 def drifts(night, call, plan):
-    """The reasons for which a server stops an action: it serves something else than is in place."""
-    for server in () if call.no_load else call.servers:
+    """The reasons for which a server stops an action: it serves something else than is in place.
+    If no server says what it serves, an edited file stops it."""
+    if call.no_load or not any(it.is_up for it in call.servers):
+        if not call.anyway and is_edited(night, call):
+            plan.stops.add("drift")
+        return
+    for server in call.servers:
         if not server.is_up:
             continue
         if plan.now and server.load == plan.now:
