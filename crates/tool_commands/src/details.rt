@@ -15,6 +15,7 @@ use refusal_details::{
 use std::fs;
 use std::io::Write;
 use std::net::{Net, TcpStream};
+use std::path::Path;
 use std::rt::Files;
 use tool_words::{ReportArgs, ToolCommand};
 
@@ -173,10 +174,42 @@ where
     }
     match (fault, args.state) {
         (Fault::Report(ReportFault::Resource(ResourceFault::File)), Some(path)) => {
-            print_irregular_log(rt, args.logs.as_slice(), err) || print_write_fault(rt, path, err)
+            print_irregular_log(rt, args.logs.as_slice(), err)
+                || print_misplaced_output(rt, args, err)
+                || print_write_fault(rt, path, err)
         }
         (Fault::Resource(ResourceFault::File), _) => print_output_fault(rt, args, err),
         _ => false,
+    }
+}
+
+// A picture or a page whose place shows that it can't be written.
+fn print_misplaced_output<R, E>(rt: &R, args: &ReportArgs<'_>, err: &mut E) -> bool
+where
+    R: Files + AllocGlobal,
+    E: Write,
+{
+    if let Some(path) = args.picture {
+        if !may_write_over(rt, path, b"<svg") || is_misplaced(rt, path) {
+            return print_picture_fault(rt, path, err);
+        }
+    }
+    match args.page {
+        Some(path) if !may_be_page(rt, path) || is_misplaced(rt, path) => {
+            print_page_fault(rt, path, err)
+        }
+        _ => false,
+    }
+}
+
+// Whether a path is a folder's, or has a folder that isn't there.
+fn is_misplaced<R: Files>(rt: &R, path: &str) -> bool {
+    match fs::metadata(rt, path) {
+        Ok(found) => found.is_dir(),
+        Err(_) => match Path::new(path).parent() {
+            Some(folder) if folder.as_str() != "" => fs::metadata(rt, folder.as_str()).is_err(),
+            _ => false,
+        },
     }
 }
 
