@@ -1,4 +1,4 @@
-use Rattle.std.proofs.Common.{Some, subst}
+use Rattle.std.proofs.Common.{◌≡◌, Some, subst}
 use Rattle.std.specs.Prelude.{IfSome, Option}
 use Rattle.commands.specs.Outputs.{IsOutput}
 use Rattle.commands.specs.declared.output.CommandOutput.TheVariants.{Ready}
