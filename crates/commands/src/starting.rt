@@ -81,6 +81,8 @@ where
     R: Files<File = File> + Threads + Wait + AllocGlobal + Clock + LogOutput + Eprint,
     R: Copy + Drop + Send + Sync + 'static,
     R: Net<Listener = TcpListener, Stream = TcpStream>,
+    R::File: Send,
+    R::Dir: Send,
     D: Disk + Sync,
     O: Write,
     requires ready { (c : Option Counters)
@@ -156,6 +158,8 @@ where
     R: Files<File = File> + Threads + Wait + AllocGlobal + Clock + LogOutput,
     R: Copy + Drop + Send + Sync + 'static,
     R: Net<Listener = TcpListener, Stream = TcpStream>,
+    R::File: Send,
+    R::Dir: Send,
     D: Disk + Sync,
     O: Write,
     requires opens { Opens (Some own.said.value) server }
