@@ -1,7 +1,7 @@
 -- What a stop leaves, from what each part leaves.
 use Rattle.std.proofs.Common.{◌≡◌, ◌∙◌, ap, refl, subst, sym, ℕ, List, [], ◌∷◌, true}
 use Rattle.std.proofs.Common.{false, zero, suc, inl, inr}
-use Rattle.std.specs.Prelude.{Some, None, Result, Ok, Err, IfErr, OnOk, IfSome, option_map}
+use Rattle.std.specs.Prelude.{Some, None, Result, Ok, Err, IfErr, IfOk, OnOk, IfSome, option_map}
 use Rattle.std.specs.Prelude.{option_copied}
 use Rattle.stage_records.specs.Steps.{ReplacedFile, StagingStep, last_step}
 use Rattle.stage_records.specs.declared.step.StepAction.{StepAction}
@@ -225,6 +225,10 @@ on_ok (Err e) P Q f p = tt
 pub on_ok_of : {T E : Type 0} (r : Result T E) (P : Type 0) → P → OnOk r P
 on_ok_of (Ok x) P p = p
 on_ok_of (Err e) P p = tt
+
+pub if_ok_of : {T E : Type 0} (r : Result T E) (P : T → Type 0) → ((x : T) → P x) → IfOk r P
+if_ok_of (Ok x) P p = p x
+if_ok_of (Err e) P p = tt
 
 pub if_err : {T E : Type 0} (r : Result T E) (P Q : E → Type 0) → ((e : E) → P e → Q e)
     → IfErr r P → IfErr r Q

@@ -5,17 +5,20 @@ use Rattle.stage_commands.proofs.resumes.resume.Goals as goal
 
 pub take_file-requires-clause-found : goal.take_file-requires-clause-found
 take_file-requires-clause-found g c =
-    resume_found _ _ _ _ _ _ _ c.in-Ok-planned.file c.in-Ok-planned.ensures
+    resume_found _ _ _ _ _ _ _ c.in-Ok-planned.file c.in-Ok-planned.ensures.planned
 
 pub returns-in-Ok-owned_text-clause-done : goal.returns-in-Ok-owned_text-clause-done
 returns-in-Ok-owned_text-clause-done g c =
-    let plans = rw c.deref.ensures.value at c.in-Ok-planned.ensures in
+    let plans = rw c.deref.ensures.value at c.in-Ok-planned.ensures.planned in
     on_ok c.take_file.result _ _ (λ takes wet. resumed _ _ _ _ _ _ _ _ c.in-Ok-planned.file _ _
     c.args.buckets c.in-Ok.recorded c.in-Ok-owned_text.ensures (search rules) c.in-Ok.ensures
     plans (takes wet)) c.take_file.ensures.done
 
 pub returns-in-Ok-owned_text-clause-planned : goal.returns-in-Ok-owned_text-clause-planned
 returns-in-Ok-owned_text-clause-planned g c =
-    let plans = rw c.deref.ensures.value at c.in-Ok-planned.ensures in
-    on_ok_of c.take_file.result _
-    (c.in-Ok.recorded, c.in-Ok.ensures, (c.in-Ok-planned.file, plans))
+    let plans = rw c.deref.ensures.value at c.in-Ok-planned.ensures.planned in
+    on_ok_of c.take_file.result _ (
+      c.in-Ok.recorded,
+      c.in-Ok.ensures,
+      (c.in-Ok-planned.file, plans, c.in-Ok-planned.ensures.accepted),
+    )
