@@ -8,20 +8,11 @@ serve_keeping-requires-clause-opens g c κs within =
     opens_so (g.D.Disk.known c.args.disk.now) (Some c.in-Ok.field-0.file.said.value)
     c.args.command.now c.in-Ok.field-0.server c.args.plan.now c.in-Ok.ensures
 
--- a server without a file
-pub returns-in_ok-serve-then-not-needs_file : goal.returns-in_ok-serve-then-not-needs_file
-returns-in_ok-serve-then-not-needs_file g c = record {
-  counters = c.requires.ready.0;
-  output = Ready c.args.server c.args.plan.now;
-  is_output = c.requires.ready.1;
-  printed = c.in_ok-serve.ensures;
-}
-
--- or with one
+-- with a file
 pub returns-in_ok-serve_keeping-in-Ok : goal.returns-in_ok-serve_keeping-in-Ok
 returns-in_ok-serve_keeping-in-Ok g c = record {
   counters = Some c.in-Ok.field-0.file.said.value;
   output = Ready c.in-Ok.field-0.server c.args.plan.now;
   is_output = c.in-Ok.ensures;
-  printed = c.in_ok-serve_keeping.ensures;
+  printed = c.in_ok-serve_keeping-in-Ok.ensures;
 }
