@@ -59,6 +59,9 @@ def wrong_shares(day):
     if in_pod(day, 1, 2, "first", "first") != (0, "") or share(day, 0, 1) != QUOTAS[-1]:
         return "a pod with a manifest begins anew"
     (day.folder / "current.toml").unlink()
+    status, said = in_pod(day, 2, 2, "first", "first")
+    if (status, "has no share" in said) != (1, True) or (day.folder / "current.toml").exists():
+        return f"a third pod of two: {said!r}, status {status}"
     for it in ODD:
         (first / "current.toml").write_text(re.sub("quota = .*", it, whole))
         status, said = in_pod(day, 0, 2, "first", "first")

@@ -14,6 +14,12 @@ odd() {
     exit 1
 }
 
+# A pod whose number isn't below REPLICAS has no share, so it isn't begun.
+none_left() {
+    echo "pod.sh: pod $number has no share, since REPLICAS is $REPLICAS" >&2
+    exit 1
+}
+
 # The manifest with this pod's share of each line `quota = N`. A quota of fewer than REPLICAS leaves a
 # pod with 0, which is refused.
 share() {
@@ -23,6 +29,7 @@ share() {
         "quota = "[0-9]*)
             all=${line#quota = } && rest=${all#"${all%%[!0-9]*}"} && all=${all%%[!0-9]*}
             case $rest in "" | [[:blank:]]* | "#"*) ;; *) odd "$line" ;; esac
+            [ "$number" -lt "$REPLICAS" ] || none_left
             line="quota = $((all / REPLICAS + (number < all % REPLICAS)))"
             ;;
         "#"*) ;;
