@@ -2,7 +2,7 @@
 import re
 import time
 
-from asking import Server, app, array, manifest, whole, without_moment
+from asking import Server, app, array, manifest, whole
 from refused_program import ASK, Servers, serves
 from refusing import Wrong
 
@@ -36,8 +36,48 @@ class KeptServers(Servers):
         return int(found[1]) if found else 0
 
     def start(self, call):
+        """As without a file. If the lock can't be opened for want of memory, that is K4 Store."""
         self.file.unlink(missing_ok=True)
-        return super().start(call)
+        try:
+            return super().start(call)
+        except Wrong as wrong:
+            if "'refused K4 Store\\n'" not in str(wrong):
+                raise
+        with self.server() as server:
+            if not serves(server):
+                raise Wrong(f"again: {server.first!r}, {server.said()!r}")
+        return "K4 Store"
+
+    def request(self, call):
+        """A server's first request, for which the store's thread commits."""
+        self.refusal.ask(0)
+        self.file.unlink(missing_ok=True)
+        with self.server() as server:
+            time.sleep(0.05)
+            self.refusal.ask(call)
+            answer = self.judged(server.exchange(ASK), 1)
+            # The store's thread allocates meanwhile.
+            time.sleep(0.05)
+            if not self.refusal.is_reached():
+                return None
+            offers = 2 if answer == "done all the same" else 1
+            end = time.monotonic() + SECONDS
+            while (again := self.judged(server.exchange(ASK), offers)) != "done all the same":
+                if time.monotonic() > end:
+                    raise Wrong(f"again: {again}")
+                time.sleep(0.05)
+        return answer
+
+    def judged(self, reply, offers):
+        """How a request is answered; its offer, the one with this number, is in the file."""
+        status, text = whole(reply) or (0, "")
+        if status == 200 and '"version":"2.0"' in text:
+            if self.number() < offers:
+                raise Wrong(f"{offers} offers, and the file has {self.number()}")
+            return "done all the same"
+        if (status, text) == (503, "K4 Store\n") or status == 500 and "Memory" in text:
+            return f"{status} {text.strip()}"
+        raise Wrong(f"{status} {text!r}")
 
     def stop(self, call):
         """A server that is stopped after one request leaves a file of which the next one begins."""
@@ -67,49 +107,4 @@ class KeptServers(Servers):
         return refused[1] if refused else "done all the same"
 
 
-class KeptAnswers:
-    """One such server that gets requests. Each place that was sent is below the file's number."""
-
-    def __init__(self, servers):
-        self.servers, self.offers = servers, 0
-
-    def judged(self, reply):
-        status, text = whole(reply) or (0, "")
-        if status == 200 and without_moment(text) == self.untroubled:
-            self.offers += 1
-            if self.servers.number() < self.offers:
-                raise Wrong(f"{self.offers} offers, and the file has {self.servers.number()}")
-            return "done all the same"
-        if (status, text) == (503, "K4 Store\n") or status == 500 and "Memory" in text:
-            return f"{status} {text.strip()}"
-        raise Wrong(f"{status} {text!r}")
-
-    def again(self, server):
-        """Sends requests until one has its usual reply."""
-        end = time.monotonic() + SECONDS
-        while (answer := self.judged(server.exchange(ASK))) != "done all the same":
-            if time.monotonic() > end:
-                raise Wrong(f"again: {answer}")
-            time.sleep(0.05)
-
-    def twice(self, server, call):
-        self.servers.refusal.ask(call)
-        answer = self.judged(server.exchange(ASK))
-        # The store's thread allocates, too.
-        time.sleep(0.01)
-        if not self.servers.refusal.is_reached():
-            return None
-        self.again(server)
-        return answer
-
-    def answers(self):
-        refusal = self.servers.refusal
-        refusal.ask(0)
-        self.servers.file.unlink(missing_ok=True)
-        with self.servers.server() as server:
-            self.untroubled = without_moment(whole(server.exchange(ASK))[1])
-            self.offers = 1
-            return refusal.in_turn(lambda call: self.twice(server, call))
-
-
-KEPT = {"start": KeptServers.start, "stop": KeptServers.stop}
+KEPT = {"start": KeptServers.start, "request": KeptServers.request, "stop": KeptServers.stop}
