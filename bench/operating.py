@@ -109,7 +109,7 @@ def before_halt():
 def wrong_stages(day):
     """Raises a stage, halts it, and undoes both."""
     raising, moves, _ = section("OPERATING.md", "Raising a stage")
-    halting, _ = section("OPERATING.md", "Halting a release")
+    halting, *_ = section("OPERATING.md", "Halting a release")
     comparing, ask, buckets, _ = section("OPERATING.md", "What is being served")
     if NOTHING not in (said := day.run(ask)):
         return f"before: {said}"
