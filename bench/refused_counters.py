@@ -37,16 +37,26 @@ class KeptServers(Servers):
 
     def start(self, call):
         """As without a file. If the lock can't be opened for want of memory, that is K4 Store."""
+        self.refusal.ask(call)
         self.file.unlink(missing_ok=True)
-        try:
-            return super().start(call)
-        except Wrong as wrong:
-            if "'refused K4 Store\\n'" not in str(wrong):
-                raise
         with self.server() as server:
-            if not serves(server):
-                raise Wrong(f"again: {server.first!r}, {server.said()!r}")
-        return "K4 Store"
+            if server.first == "":
+                status, said = server.ends(), server.said()
+                refused = REFUSED.fullmatch(said)
+                if status != 1 or not refused:
+                    raise Wrong(f"status {status}, {said!r}")
+                answer = refused[1]
+            else:
+                # Allocations that follow its line `serving`.
+                time.sleep(0.05)
+                answer = "serves all the same"
+            if not self.refusal.is_reached():
+                return None
+            if server.first != "":
+                self.until_offer(server, 1)
+        with self.server() as server:
+            self.until_offer(server, 1)
+        return answer
 
     def request(self, call):
         """A server's first request, for which the store's thread commits."""
@@ -60,13 +70,18 @@ class KeptServers(Servers):
             time.sleep(0.05)
             if not self.refusal.is_reached():
                 return None
-            offers = 2 if answer == "done all the same" else 1
-            end = time.monotonic() + SECONDS
-            while (again := self.judged(server.exchange(ASK), offers)) != "done all the same":
-                if time.monotonic() > end:
-                    raise Wrong(f"again: {again}")
-                time.sleep(0.05)
+            self.until_offer(server, 2 if answer == "done all the same" else 1)
         return answer
+
+    def until_offer(self, server, offers):
+        """Sends requests until one gets an offer, the one with this number, and then a stop."""
+        end = time.monotonic() + SECONDS
+        while (answer := self.judged(server.exchange(ASK), offers)) != "done all the same":
+            if time.monotonic() > end:
+                raise Wrong(f"again: {answer}")
+            time.sleep(0.05)
+        if server.ask("stop") != "stopping\n" or server.ends() != 0:
+            raise Wrong(f"it doesn't stop: {server.said()!r}")
 
     def judged(self, reply, offers):
         """How a request is answered; its offer, the one with this number, is in the file."""
