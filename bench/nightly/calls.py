@@ -13,7 +13,7 @@ STOPS = {
     "test": r"it has (no|several) tests?|program",
     "lost": r"a row is lost",
     "lifts": r"this lifts the halt of",
-    "refused": r"is refused|is no file|can't be|isn't|no such",
+    "refused": r"(is|would be) refused|is no file|can't be|isn't|no such",
     "none": r"no step is left",
     "unhalted": r"isn't halted by a step|is still halted by step",
     "again": r"was replaced again since",

@@ -109,6 +109,10 @@ def is_loaded(night, call, plan, known, server, output):
         return False
     if is_other(night, known, server):
         return call.other_server
+    if set(server.load.appids()) - known and any(it.is_damaged for it in night.steps):
+        # Perhaps only the cut record knows what it serves: then it is another one.
+        said = call.word == "halt" and call.appid in server.halts
+        return call.other_server or len(generations(output, server.operator)) > said
     loads = [it for it in (plan.now, plan.then) if it]
     if call.word != "halt" or call.anyway or server.load in loads:
         return True

@@ -159,13 +159,13 @@ def machines(*loads):
 
 def loses(now, then):
     """Whether a machine may lose its release from one load to the next: one is offered none or a
-    lower version, or it isn't compared."""
+    lower version, its app is gone, or it isn't compared."""
     for app in now.apps:
         one = (app.kind, now.file_of(app.appid))
         other = (then.kind_of(app.appid), then.file_of(app.appid))
         if one == other:
             continue
-        if "program" in (one[0], other[0]):
+        if other[0] is None or "program" in (one[0], other[0]):
             return True
         for version, bucket in machines(now, then):
             had = now.offer(app.appid, version, bucket)
