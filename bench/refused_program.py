@@ -10,7 +10,11 @@ from asking import (
 from refusing import Wrong, told
 
 PATIENCE = 60
-LINE = re.compile(r"refused ([A-Z]\d+ Memory(?: in --against)?)\n")
+LINE = re.compile(r"refused ([A-Z]\d+ Memory(?: in (?:--against|OLD|NEW))?)\n")
+# What `check --json` prints if memory ran out.
+FAULT = re.compile(
+    r'\{"manifests":\[\{"accepted":false,"faults":\[\{"reason":"","refusal":"(\w+ Memory)"\}\].*\}\n'
+)
 # The warnings that `check` prints about accepted manifests.
 WARNINGS = re.compile(r"((warning [a-z-]+: |manifest ).*\n)*")
 # The progress of `simulate`.
@@ -73,7 +77,7 @@ COMMANDS = {
     "why": ["why", "first.toml", "a.log", "--bucket", "7"],
 }
 # The files that a call may write, with their bytes before it; without bytes it isn't there.
-WRITTEN = {"OUT": BEFORE, "PAGE": b"<!DOCTYPE html> as it was", "STATE": None}
+WRITTEN = {"OUT": BEFORE, "PAGE": b"", "STATE": None}
 
 
 # A simulation allocates for each client: after the first 600, every 997th is enough.
@@ -173,6 +177,8 @@ def kind(found, untroubled):
         raise Wrong(f"again: {untroubled}")
     if refused and found == (1, "", found[2], WRITTEN):
         return refused[1]
+    if (fault := FAULT.fullmatch(found[1])) and found == (1, found[1], "", WRITTEN):
+        return f"{fault[1]} in JSON"
     if is_refused_event(found, untroubled):
         return "E6 Memory, of an event"
     if is_refused_check(found, untroubled):

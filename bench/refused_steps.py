@@ -8,7 +8,10 @@ from asking import app, manifest, program_of
 from refusing import Wrong, told
 
 PATIENCE = 60
-LINE = re.compile(r"(?:.*\n)*refused (B4 Memory)\n")
+# The last line: what is refused and why, or what a step found out of memory.
+LINE = re.compile(r"(?:.*\n)*(?:refused |stage: .*[ (])([BM]\d Memory|out of memory)\b.*\n")
+# What it says if `stage back` has to undo a part of the step.
+HALFWAY = "call stage back"
 
 TWO = app("x", "x.rule", "2.1") + app("y", "y.rule", "1.4")
 FILES = {
@@ -80,9 +83,10 @@ class Steps:
             raise Wrong(f"{found}: a file has other bytes")
         if found == untroubled and files == new:
             return "done all the same"
-        if found[0] == 1 and LINE.fullmatch(found[2]):
+        refused = LINE.fullmatch(found[2])
+        if found[0] == 1 and refused:
             changed = "" if files == old else ", after a file was replaced"
-            return f"B4 Memory{changed}"
+            return f"{refused[1]}{changed}"
         raise Wrong(f"{found}")
 
     def run(self, name):
@@ -101,6 +105,8 @@ class Steps:
             if not self.refusal.is_reached():
                 return None
             ended = self.judged(found, untroubled, old, new)
+            if HALFWAY in found[2]:
+                self.succeed(self.room, ["back", "--anyway"])
             if ended != "done all the same":
                 self.succeed(self.room, words)
             if served(self.room) != new:
