@@ -80,12 +80,13 @@ COMMANDS = {
 WRITTEN = {"OUT": BEFORE, "PAGE": b"", "STATE": None}
 
 
-# A simulation allocates for each client: after the first 600, every 997th is enough.
+# A simulation allocates for each client, a comparison for each case: after the first 600, every
+# 997th is enough.
 def some(first):
     return itertools.chain(range(first, 600), itertools.count(600, 997))
 
 
-CALLS = {"simulate": some}
+CALLS = {"simulate": some, "diff": some, "diff, json": some}
 
 
 def write_files(folder, program):
