@@ -23,7 +23,7 @@ ASKS = 1500
 BALANCED = [(f"127.0.0.1:{PORTS['8080']};", f"127.0.0.1:{PORTS['8080']};\n"
              f"    server 127.0.0.1:{PORTS['8090']};")]
 SSH = """#!/bin/sh
-host=$1 && shift
+host=${1#root@} && shift
 case $host in a) port=%s ;; b) port=%s ;; esac
 words=$(echo "$*" | sed "s|/opt/|%s/$host/opt/|; s|/etc/|%s/$host/etc/|; s|8081|$port|")
 exec sh -c "$words"

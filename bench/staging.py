@@ -321,7 +321,9 @@ def other_files_stay(folder):
         if it.all() != before:
             return f"{words}: {said}"
     it.write("x=1.rule", texts)
-    if "several tests" not in (said := alone(it, "raise 'editor: beta' 2500")):
+    if "isn't as step 2 left it" not in (said := alone(it, "raise 'editor: beta' 2500")):
+        return f"edited: {said}"
+    if "several tests" not in (said := alone(it, "raise 'editor: beta' 2500 --anyway")):
         return f"two tests: {said}"
 
 
@@ -394,7 +396,10 @@ def stops_truly(folder):
         return f"status: {said}"
     for number in range(100):
         (it.folder / f"other.rule.{number}.new").unlink()
-    if "replaced other.rule\n" not in (said := alone(it, f"put {next_one.folder}/current.toml")):
+    if "isn't as step 1 left it" not in (said := alone(it, f"put {next_one.folder}/current.toml")):
+        return f"again: {said}"
+    rest = f"put {next_one.folder}/current.toml --anyway"
+    if "replaced other.rule\n" not in (said := alone(it, rest)):
         return f"the rest: {said}"
     if "stopped step 1 of" not in (said := alone(it, "status")) or "done step 2 of" not in said:
         return f"status of both: {said}"
