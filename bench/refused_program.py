@@ -13,7 +13,8 @@ PATIENCE = 60
 LINE = re.compile(r"refused ([A-Z]\d+ Memory(?: in (?:--against|OLD|NEW))?)\n")
 # What `check --json` prints if memory ran out.
 FAULT = re.compile(
-    r'\{"manifests":\[\{"accepted":false,"faults":\[\{"reason":"","refusal":"(\w+ Memory)"\}\].*\}\n'
+    r'\{"manifests":\[\{"accepted":false,"faults":\[\{"reason":"",'
+    r'"refusal":"(\w+ Memory)"\}\].*\}\n'
 )
 # The warnings that `check` prints about accepted manifests.
 WARNINGS = re.compile(r"((warning [a-z-]+: |manifest ).*\n)*")
