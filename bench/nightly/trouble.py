@@ -63,8 +63,7 @@ def settle_steps(night, plan, changed, expected, errors):
     if plan.step:
         plan.step.is_partial = len(changed) != len(expected)
         if plan.step.spelt() in records:
-            if UNCHANGED in errors:
-                night.wrong(f"untrue: nothing has changed, but {plan.step.line()}")
+            # Also where no file has changed, as SPECIFICATION says: `back` undoes that step first.
             night.steps.append(plan.step)
         elif changed:
             night.wrong(f"no record of {changed}: {records}, not {plan.step.spelt()}")
