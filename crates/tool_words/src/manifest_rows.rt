@@ -193,7 +193,7 @@ pub(crate) const WHY: CommandRow<ToolVerb> = CommandRow {
         CommandArgument::Text(
             "id",
             "ID",
-            "requestid of a request, or else its sessionid, whole or its first characters",
+            "Beginning of the requestid, or else of the sessionid",
         ),
         CommandArgument::Flag("all", "Explain all its requests, not only the last three"),
         CELLS,
