@@ -57,4 +57,5 @@ is_unknown other = false
 -- continued by `--anyway`
 abbrev pub compares_files : StageOptions → StageAction → List Surveyed → Bool
 compares_files options action servers =
-    not (only_looks action || is_halt action || options.anyway) && list_all (λ server. is_unknown server.serves) servers
+    not (only_looks action || is_halt action || options.anyway)
+    && list_all (λ server. is_unknown server.serves) servers

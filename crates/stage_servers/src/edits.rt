@@ -6,7 +6,8 @@ ghost use Rattle.std.specs.Prelude.{◌≡◌, All, IfNone, OnOk, true};
 ghost use Rattle.std.specs.List.{list_all, list_any};
 ghost use Rattle.stage_servers.specs.Drift.{is_back};
 ghost use Rattle.stage_servers.specs.Unedited as specs;
-ghost use Rattle.stage_servers.specs.Unedited.{AreFilesUnedited, AreUnedited, IsLastLeft, IsUnedited};
+ghost use Rattle.stage_servers.specs.Unedited.{AreFilesUnedited, AreUnedited};
+ghost use Rattle.stage_servers.specs.Unedited.{IsLastLeft, IsUnedited};
 
 use crate::drift::{is_back, is_halt};
 use crate::history::state_of;

@@ -116,9 +116,9 @@ where
     }
 }
 
-/// Has the servers that halted the app of a halt do so again, once the folder is locked, or couldn't
-/// be: a call that was at work until then may have ended it. A server that still halts it changes
-/// nothing.
+/// Has the servers that halted the app of a halt do so again, once the folder is locked, or it
+/// couldn't be: a call that was at work until then may have ended it. A server that still halts it
+/// changes nothing.
 // open: what a server does, and what is printed: bench/outside.
 pub fn halt_again<R>(rt: &R, action: &StageAction<'_>, lines: &Lines)
 where
