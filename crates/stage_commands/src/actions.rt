@@ -193,7 +193,7 @@ where
 
 // Prints the status or the history; or changes the files, and has the servers load the manifest.
 // Returns whether all is done.
-#[tactic(auto, using(crate::proofs::Left::unchanged_by, crate::proofs::Seen::unseen, crate::proofs::Seen::not_compared))]
+#[tactic(auto, using(crate::proofs::Left::unchanged_by, crate::proofs::Seen::unseen))]
 fn act<R, D, F>(
     call: &StageCall<'_, R, D>,
     folder: &mut F,
