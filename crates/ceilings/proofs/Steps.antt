@@ -1,6 +1,8 @@
 -- The rule at first, and that each step keeps it.
-use Rattle.std.proofs.Common.{◌≡◌, ◌≢◌, ℕ, zero, suc, ◌<◌, ◌≤◌, max, Bool, true, false, List, [], ◌∷◌}
-use Rattle.std.proofs.Common.{◌++◌, length, set, refl, sym, ap, ◌∙◌, subst, ⊎_elim, arith, append-nil}
+use Rattle.std.proofs.Common.{◌≡◌, ◌≢◌, ℕ, zero, suc, ◌<◌, ◌≤◌, max, Bool, true, false, List, []}
+use Rattle.std.proofs.Common.{◌∷◌}
+use Rattle.std.proofs.Common.{◌++◌, length, set, refl, sym, ap, ◌∙◌, subst, ⊎_elim, arith}
+use Rattle.std.proofs.Common.{append-nil}
 use Rattle.std.proofs.Common.{append_assoc, length-set, get_or-set_same, get_or-set_other}
 use Rattle.std.specs.Prelude.{◌==◌, if◌then◌else◌, slice_index, slice_set}
 use Rattle.std.proofs.lemmas.Bool.Decides.{nat_tests}
@@ -33,13 +35,15 @@ longer c (y ∷ log) more = step (y.cell == c) y.number (longer c log more)
     step false n le = le
 
 pub grows : CeilingsGrow
-grows c old new h = subst (λ (l : List Raised). raised_in c old ≤ raised_in c l) h.1 (longer c old h.0)
+grows c old new h =
+    subst (λ (l : List Raised). raised_in c old ≤ raised_in c l) h.1 (longer c old h.0)
 
 itself : (c : ℕ) → (c == c) ≡ true
 itself c = grind (arith, nat_tests)
 
 raised_last : (c n : ℕ) (log : List Raised) → n ≤ raised_in c (log ++ raised_as c n ∷ [])
-raised_last c n [] = subst (λ (b : Bool). n ≤ (if b then max n 0 else 0)) (sym (itself c)) (omega arith)
+raised_last c n [] =
+    subst (λ (b : Bool). n ≤ (if b then max n 0 else 0)) (sym (itself c)) (omega arith)
 raised_last c n (y ∷ log) =
     let rest = raised_last c n log in
     let more = one_more y.number (raised_in c (log ++ raised_as c n ∷ [])) (y.cell == c) in

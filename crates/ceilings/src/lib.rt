@@ -10,12 +10,12 @@
 // is one load.
 //
 // The rule of the table (`specs/Rule.antt`, `HasLog`) is true at every moment: each ceiling is at
-// most the greatest number to which it was raised, and what each token knows is a prefix of one list
-// of raises. So a ceiling that a look finds shows that the counter's ceiling was raised at least so
-// far, by the list that the reader knows from then on.
+// most the greatest number to which it was raised, and what each token knows is a prefix of one
+// list of raises. So a ceiling that a look finds shows that the counter's ceiling was raised at
+// least so far, by the list that the reader knows from then on.
 //
-// What a raise means is up to the writer. That a reader knows only what the writer has raised is the
-// law `Ceilings::seen`.
+// What a raise means is up to the writer. That a reader knows only what the writer has raised is
+// the law `Ceilings::seen`.
 
 mod ceilings;
 mod laws;

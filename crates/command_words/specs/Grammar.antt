@@ -2,7 +2,8 @@
 use Rattle.std.specs.Prelude.{pos, List, [], ◌∷◌, ◌++◌, false, codes}
 use Rattle.clap.specs.Words.{App, Rule, Text}
 use Rattle.command_line.specs.Grammar.{VerbRules, app_of_rules, app_options, arrays, bucket, file}
-use Rattle.command_line.specs.Grammar.{flag, input, manifest, names_of_rules, operator, option, ranged}
+use Rattle.command_line.specs.Grammar.{flag, input, manifest, names_of_rules, operator, option}
+use Rattle.command_line.specs.Grammar.{ranged}
 use Rattle.command_line.specs.Grammar.{releases, required_number, verbose}
 use Rattle.command_words.specs.declared.verb.Verb.{Verb}
 use Rattle.command_words.specs.declared.verb.Verb.TheVariants as verb

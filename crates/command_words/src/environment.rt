@@ -5,8 +5,8 @@ use std::rt::Env;
 use std::{env, io};
 
 /// The words of the command line. After the command's name there are also those of the environment:
-/// `--verbose` if ROLLOUT_VERBOSE is `1`; and `--operator P` if ROLLOUT_OPERATOR is P, for a command
-/// to a running server without this option.
+/// `--verbose` if ROLLOUT_VERBOSE is `1`; and `--operator P` if ROLLOUT_OPERATOR is P, for a
+/// command to a running server without this option.
 // open: which words are added: `bench/outside`.
 pub fn words_of<R: Env + AllocGlobal>(rt: &R) -> io::Result<Vec<String>> {
     let mut words: Vec<String> = env::args(rt)?.collect(rt.alloc())?;

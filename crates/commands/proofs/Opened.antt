@@ -50,7 +50,8 @@ module _ (known : KnownFiles) (manifest : List ℕ) (c : Counters) (none : c.dir
     loaded = subst (λ (a : List CellArray). IsLoadedFrom known manifest a server.loaded.rules
         server.loaded.directory) none ready.loaded;
     path = ready.path;
-    made = subst (λ (a : List CellArray). IsMadeFrom known manifest a server.loaded) none ready.made;
+    made =
+        subst (λ (a : List CellArray). IsMadeFrom known manifest a server.loaded) none ready.made;
     opens = (
       ap (λ (v : Vec (String Global) Global). v.items) ready.opens.0 ∙ halted,
       subst (AreZeros 8192) (sym (ap (λ (v : Vec ℕ Global). v.items) ready.opens.1)) zeros,
@@ -60,7 +61,8 @@ module _ (known : KnownFiles) (manifest : List ℕ) (c : Counters) (none : c.dir
   pub refused_without : (fault : ServingFault) → IsStartRefusal known manifest (Some c) fault
       → IsStartRefusal known manifest None fault
   refused_without fault refused =
-      subst (λ (a : List CellArray). IsStaffFault fault ⊎ RefusesToServe known manifest a fault) none
+      subst
+      (λ (a : List CellArray). IsStaffFault fault ⊎ RefusesToServe known manifest a fault) none
       refused
 
 module _ (known : KnownFiles) (given : Command) (manifest : Bor (List ℕ))

@@ -11,8 +11,8 @@ use Rattle.command_words.specs.declared.request.Command.{Command}
 use Rattle.commands.specs.declared.output.CommandOutput.{CommandOutput}
 use Rattle.server_counters.specs.declared.counters.Counters.{Counters}
 
--- the command has this output, whose text was appended to standard output. If it served, the
--- server opened with these counters
+-- the command has this output, whose text was appended to standard output. If it is to serve, a
+-- ready server, which need not be the one that served, opens with these counters
 pub record HasPrinted (known : KnownFiles) (command : Command)
     (before after : Option (List ℕ)) : Type 0 where
   pub counters : Option Counters

@@ -23,9 +23,9 @@ use workers::ServeOptions;
 
 /// Makes all that a server needs, and serves by the plan until the operator stops it, with its log
 /// or without one. `found` is how the file of its counters was found, if it has one. Returns the
-/// counters that it leaves. Once all is made, `out` gets the ready line of generation 1. Returns S1,
-/// H1 or B4 if out of memory before that; B4 if an allocation or a thread fails; B3 if `out` can't
-/// be written; and H2 if a watcher can't be read after the server's end.
+/// counters that it leaves. Once all is made, `out` gets the ready line of generation 1. Returns
+/// S1, H1 or B4 if out of memory before that; B4 if an allocation or a thread fails; B3 if `out`
+/// can't be written; and H2 if a watcher can't be read after the server's end.
 // open: what a connection sends, and that a server answers: tests.
 pub fn serve_until_stopped<R, D, F, O>(
     rt: &R,

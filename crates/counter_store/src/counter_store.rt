@@ -126,7 +126,8 @@ impl<F: KeptFile + Drop> CounterStore<F> {
     /// present values. Returns whether there was something to store: a new value of a cell without
     /// a quota counts only if it `is_due`. Returns K4 if the file can't be written, and B4 if an
     /// allocation fails. Then no ceiling is raised, and no reply waits until a commit succeeds.
-    // open: what the workers want, and when K4 and B4 are returned.
+    // open: what the workers want; that Ok(false) means nothing to store; when K4 and B4 are
+    // returned.
     pub fn commit(
         &mut self,
         alloc: Global,

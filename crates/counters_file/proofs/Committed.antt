@@ -1,5 +1,6 @@
 -- What a file keeps after it was replaced.
-use Rattle.std.proofs.Common.{◌≡◌, ℕ, List, Option, Some, None, Result, Ok, Err, refl, sym, subst, inl, inr}
+use Rattle.std.proofs.Common.{◌≡◌, ℕ, List, Option, Some, None, Result, Ok, Err, refl, sym, subst}
+use Rattle.std.proofs.Common.{inl, inr}
 use Rattle.std.specs.Prelude.{◌⊎◌, IfSome, OnErr, OnOk}
 use Rattle.counters_file.specs.declared.counters_fault.CountersFault.{CountersFault}
 use Rattle.counters_file.specs.Kept.{IsWhole, Keeps}

@@ -77,4 +77,5 @@ halted_read was_stopped tail out all next (appid ∷ rest) done are can is numbe
     (with_counters was_stopped done (counters_from number (halted_line appid ∷ others) nothing)))
     (halted_back appid (All-head IsText appid rest are) (All-head CanBeHalted appid rest can))
     ∙ halted_read was_stopped tail out all next rest (done ++ appid ∷ [])
-    (All-tail IsText appid rest are) (All-tail CanBeHalted appid rest can) (is ∙ sym (append_assoc done (appid ∷ []) rest)) (number + 1)
+    (All-tail IsText appid rest are) (All-tail CanBeHalted appid rest can)
+    (is ∙ sym (append_assoc done (appid ∷ []) rest)) (number + 1)

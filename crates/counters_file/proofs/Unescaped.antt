@@ -1,5 +1,6 @@
 -- Bytes that are an appid that can be halted, or that aren't.
-use Rattle.std.proofs.Common.{◌≡◌, ℕ, Bool, true, false, List, Option, Some, None, Global, refl, sym, ap}
+use Rattle.std.proofs.Common.{◌≡◌, ℕ, Bool, true, false, List, Option, Some, None, Global, refl}
+use Rattle.std.proofs.Common.{sym, ap}
 use Rattle.std.proofs.Common.{subst, ◌∙◌}
 use Rattle.std.specs.Prelude.{IsUtf8, if◌then◌else◌, ◌&&◌, string_bytes}
 use Rattle.std.specs.Str.{is_utf8}

@@ -39,8 +39,12 @@ impl<'a, R: Files<File = File> + AllocGlobal> DeviceFile<'a, R> {
         let Ok(own) = String::from_str(rt.alloc(), path) else {
             return Err(CountersFault::Memory);
         };
-        let Ok(lock) = open_lock(rt, path) else {
-            return Err(CountersFault::Store);
+        let lock = match open_lock(rt, path) {
+            Ok(lock) => lock,
+            Err(error) if error.kind() == ErrorKind::OutOfMemory => {
+                return Err(CountersFault::Memory);
+            }
+            Err(_) => return Err(CountersFault::Store),
         };
         match lock.try_lock() {
             Ok(()) => {

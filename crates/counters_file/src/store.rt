@@ -20,9 +20,9 @@ use std::fs::File;
 use std::rt::Files;
 use std::str;
 
-/// What a file says; None if it isn't there. Returns K3 if the file has a wrong line, K2 if it can't
-/// be read, and B4 if an allocation fails.
-// open: when K2 and B4 are returned; the line of bytes that aren't UTF-8.
+/// What a file says; None if it isn't there. Returns K3 if the file has a wrong line, K2 if it
+/// can't be read, and B4 if an allocation fails.
+// open: when K2, K3 and B4 are returned, and the line of K3: rows.
 pub fn read_counters<F: KeptFile>(
     alloc: Global,
     file: &F,

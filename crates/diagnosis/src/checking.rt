@@ -65,9 +65,9 @@ use std::alloc::Global;
 /// Returns M8 if an allocation fails for the load or for the text about an accepted manifest, and
 /// if the count of unreadable files overflows. If an allocation fails for the reason, the reason is
 /// left out, entirely or except for the file's name; the same holds for the further faults.
-// open: whether an allocation fails; the words of the lines, and the place in a file: rows; that the
-// reason and the further faults are left out only if out of memory: tests; that it asks the disk
-// whether the manifest is a symbolic link, or a file's path has one: `bench/hostile`.
+// open: whether an allocation fails; the words of the lines, and the place in a file: rows; that
+// the reason and the further faults are left out only if out of memory: tests; that it asks the
+// disk whether the manifest is a symbolic link, or a file's path has one: `bench/hostile`.
 pub fn check<F: Files>(
     alloc: Global,
     manifest: &[u8],

@@ -70,7 +70,8 @@ fn push_manifest_reason(
 
 // The error of the TOML reader, and how the tables of a manifest begin: for a list that begins
 // otherwise, the reader mostly names another line. The error keeps its line ends and quotes the
-// manifest: so its lines are printed as untrusted text, and none if the manifest is a symbolic link.
+// manifest: so its lines are printed as untrusted text, and none if the manifest is a symbolic
+// link.
 fn push_toml_reason(alloc: Global, text: &mut TextBuffer, parsed: &Parsed, is_link: bool) {
     if !is_link {
         let Parsed::Error(error) = parsed else {

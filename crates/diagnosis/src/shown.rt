@@ -1,4 +1,5 @@
-//! The excerpt of an app's file: the place of its fault. No clause says the words; rows compare them.
+//! The excerpt of an app's file: the place of its fault. No clause says the words; rows compare
+//! them.
 
 use bounded_files::KeptBytes;
 use bpf_insn::decode_at;

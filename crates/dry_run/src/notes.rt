@@ -1,6 +1,6 @@
 //! The lines `ignored: ..`: one for each member of a request, or of an app, that is present and
-//! doesn't fit. No clause says which words; rows compare them. The body's JSON is read once more for
-//! them, because the observers of a request's apps promise nothing.
+//! doesn't fit. No clause says which words; rows compare them. The body's JSON is read once more
+//! for them, because the observers of a request's apps promise nothing.
 
 ghost use Rattle.std.specs.Prelude.{◌≡◌, option_map};
 ghost use Rattle.serde_json.specs.View.{items_view, view};

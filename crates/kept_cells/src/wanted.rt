@@ -9,7 +9,8 @@ use std::sync::atomic::{AtomicBool, AtomicU64, Ordering};
 use std::thread::Parker;
 use std::time::Duration;
 
-/// The numbers that are wanted, the marks, whether the last commit failed, and the bell of the store.
+/// The numbers that are wanted, the marks, whether the last commit failed, and the bell of the
+/// store.
 #[derive(Drop)]
 pub(crate) struct Wanted {
     numbers: Vec<AtomicU64>,

@@ -15,23 +15,36 @@ use Rattle.moments.specs.LogTimes.{IsTextOf}
 use Rattle.moments.specs.declared.moment.NamedTime.{NamedTime}
 use Rattle.report.specs.Counts.{Counts}
 use Rattle.report.specs.Lines.{lines_in}
-use Rattle.report.specs.Reading.{CountsLines, ReadsLog}
+use Rattle.report.specs.Reading.{AddsLines, CountsLines, ReadsLog}
 use Rattle.report.specs.declared.counting.Report.{Report}
 use Rattle.report.specs.declared.window.Window.{Window}
 use Rattle.markup.specs.WellFormed.{HasPicture}
 use Rattle.report_page.specs.Pages.{HasPage}
 
 module _ (window : Window) where
+  none_added : (r : Report) → AddsLines window [] r r
+  unfolding AddsLines
+  none_added r = refl
+
   counts_none : (r : Report) → CountsLines window [] r r
   counts_none r = record {
+    adds = none_added r;
     extends = λ drawn before counted.
         subst (λ (lines : List (List ℕ)). Counts window lines drawn r) (sym (append-nil before))
         counted;
   }
 
+  both_added : (xs ys : List (List ℕ)) (a b c : Report)
+      → AddsLines window xs a b → AddsLines window ys b c → AddsLines window (xs ++ ys) a c
+  unfolding AddsLines
+  both_added [] ys a b c first last = subst (λ (r : Report). AddsLines window ys r c) first last
+  both_added (x ∷ xs) ys a b c first last =
+      (first.0, first.1, both_added xs ys first.0 b c first.2 last)
+
   counts_both : (xs ys : List (List ℕ)) (a b c : Report)
       → CountsLines window xs a b → CountsLines window ys b c → CountsLines window (xs ++ ys) a c
   counts_both xs ys a b c first last = record {
+    adds = both_added xs ys a b c first.adds last.adds;
     extends = λ drawn before counted.
         subst (λ (lines : List (List ℕ)). Counts window lines drawn c) (append_assoc before xs ys)
         (last.extends drawn (before ++ xs) (first.extends drawn before counted));

@@ -1,5 +1,5 @@
--- A report that continues from a state. Nothing is known about the files of a device, so the state and
--- each log have some bytes.
+-- A report that continues from a state. Nothing is known about the files of a device, so the state
+-- and each log have some bytes.
 use Rattle.std.specs.Prelude.{◌≡◌, ℕ, List, [], Option, Some, None, length, flat_map, false}
 use Rattle.std.specs.Prelude.{Bool, string_bytes}
 use Rattle.markup.specs.WellFormed.{HasPicture}
@@ -21,8 +21,9 @@ abbrev pub BeginsFrom : Option (List ℕ) → Report → Type 0
 BeginsFrom None r = (window : Window) → Counts window [] false r
 BeginsFrom (Some bytes) r = SpellsCounts bytes r
 
--- The report that counts what `begun` counted, and then the lines of a part of each of `n` logs. The
--- new state spells it. Its places are `old` after these parts, up to 1000 unless more logs are named.
+-- The report that counts what `begun` counted, and then the lines of a part of each of `n` logs.
+-- The new state spells it. Its places are `old` after these parts, up to 1000 unless more logs are
+-- named.
 pub record Continues (n : ℕ) (form : ReportForm) (begun report : Report) (old : List LogPlace)
     (text : List ℕ) : Type 0 where
   pub window : Window

@@ -27,20 +27,20 @@ const MOST_PLACES: usize = 1000;
 
 /// The report on all lines of the logs that this call and those before it counted, in this form.
 /// The file `state` says what was counted. It is replaced before the report is returned. If it is
-/// empty or doesn't exist, the logs are read from their first line. If the call is refused, the file
-/// stays as it is, or stays absent.
+/// empty or doesn't exist, the logs are read from their first line. If the call is refused, the
+/// file stays as it is, or stays absent.
 ///
 /// A log is known by its first 256 bytes, whatever its path is. The state also keeps the logs that
 /// this call leaves out, up to 1000 in all, so a later call continues them. A last line without its
 /// line feed is left for the next call, and so is a log with only the first lines of a known one.
 ///
-/// The picture and the page are written before the state. They have the course that the state keeps:
-/// at most 200 minutes and 200 hours. The first call that names a picture or a page begins it, and
-/// each later one continues it.
+/// The picture and the page are written before the state. They have the course that the state
+/// keeps: at most 200 minutes and 200 hours. The first call that names a picture or a page begins
+/// it, and each later one continues it.
 ///
 /// Returns B3 if a log can't be read or isn't a regular file, if the state, the picture or the page
-/// can't be read or written, and if the picture or the page would overwrite another kind of file; B4
-/// if an allocation fails; B9 if the file isn't a state; B10 if another call has it.
+/// can't be read or written, and if the picture or the page would overwrite another kind of file;
+/// B4 if an allocation fails; B9 if the file isn't a state; B10 if another call has it.
 // open: whether an allocation fails; which part of each log is counted; that the files have the new
 // state, the picture and the page: rows, and `bench/outside`.
 #[tactic(auto, using(crate::proofs::Continued::has_continued))]

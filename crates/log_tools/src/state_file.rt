@@ -24,8 +24,8 @@ pub(crate) struct StateLock {
     is_made: bool,
 }
 
-/// Locks the file of a state. A file that doesn't exist is made, empty. Returns B10 if another report
-/// has the lock, or has just replaced the file.
+/// Locks the file of a state. A file that doesn't exist is made, empty. Returns B10 if another
+/// report has the lock, or has just replaced the file.
 pub(crate) fn lock_state<R: Files<File = File>>(
     rt: &R,
     path: &str,

@@ -21,7 +21,8 @@ pub emptied : (tags : List Tag) (given : List Attribute) (text : List ℕ) → t
     → text ≡ [] → IsWritten false Content tags given false text
 emptied tags given text none is = rw (none, is) empty
 
-module _ (kind : Kind) (tags after : List Tag) (before given : List Attribute) (old new : List ℕ) where
+module _ (kind : Kind) (tags after : List Tag) (before given : List Attribute)
+    (old new : List ℕ) where
   pub opened : (failed in_tag : Bool) (tag : Tag) → IsWritten failed kind tags before in_tag old
       → new ≡ old ++ opening in_tag tag → after ≡ tags ++ tag ∷ [] → given ≡ []
       → IsWritten failed kind after given true new

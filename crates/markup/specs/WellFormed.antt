@@ -1,9 +1,9 @@
 -- Markup, as the bytes of a text in UTF-8: a picture, which is well-formed XML 1.0 with the root
--- `svg`, or the content of a page. A text is read from left to right. At each place it is known which
--- elements are open (the innermost last), and which attributes a start tag has that isn't ended.
--- Elements, attributes and classes are those of `Names` and `Classes`: none is a script, link or
--- style. A client's text is character data, or the value of an attribute in quotes: it has no quote,
--- no `<` and no `>`, and a `&` only if an entity follows.
+-- `svg`, or the content of a page. A text is read from left to right. At each place it is known
+-- which elements are open (the innermost last), and which attributes a start tag has that isn't
+-- ended. Elements, attributes and classes are those of `Names` and `Classes`: none is a script,
+-- link or style. A client's text is character data, or the value of an attribute in quotes: it has
+-- no quote, no `<` and no `>`, and a `&` only if an entity follows.
 use Rattle.std.specs.Prelude.{◌≡◌, ℕ, List, [], ◌∷◌, ◌++◌, codes, Bool, true, false}
 use Rattle.std.specs.Prelude.{◌&&◌, if◌then◌else◌}
 use Rattle.std.specs.Prelude.{Option, Some, None, is_some, IfSome, String, string_bytes}
@@ -59,8 +59,8 @@ root_opening = codes "<svg xmlns=\"http://www.w3.org/2000/svg\""
 
 -- ---- documents
 
--- a prefix of a picture or of content: its open elements, the attributes of the start tag that isn't
--- ended, if any, and its text
+-- a prefix of a picture or of content: its open elements, the attributes of the start tag that
+-- isn't ended, if any, and its text
 pub data IsBegun : Kind → List Tag → Option (List Attribute) → List ℕ → Type 0 where
   root : IsBegun Picture [] (Some (attribute.Xmlns ∷ [])) root_opening
   empty : IsBegun Content [] None []

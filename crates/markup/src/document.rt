@@ -151,7 +151,8 @@ impl Document {
         }
     }
 
-    /// The whole content of a page. Returns `AllocError` as `finish` does, and if this is a picture.
+    /// The whole content of a page. Returns `AllocError` as `finish` does, and if this is a
+    /// picture.
     // open: when it fails; that the text is what was written.
     pub fn finish_content(self) -> Result<String, AllocError>
         ensures { IfOk result (λ text. specs.IsContent (string_bytes text)) }

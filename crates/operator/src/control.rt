@@ -54,7 +54,7 @@ impl Control {
 
     /// The control of a server that serves this publisher's ruleset, over these arrays. It was
     /// loaded as `last` says, while these apps are halted, the one that was halted last first. The
-    /// publisher's ruleset has to be the loaded one as it is served then.
+    /// publisher's ruleset has to be the loaded one as it is served then; no clause requires it.
     pub fn new(
         publisher: Publisher,
         directory: Directory,

@@ -73,9 +73,9 @@ impl<'a> OperatorRequest<'a> {
         None
     }
 
-    /// Whether a line spells it: whether its argument, if it has one, isn't empty, has no line feed,
-    /// and fits into a line. A path may have 4091 bytes, and so may a halted appid; a resumed one
-    /// 4089.
+    /// Whether a line spells it: whether its argument, if it has one, isn't empty, has no line
+    /// feed, and fits into a line. A path may have 4091 bytes, and so may a halted appid; a resumed
+    /// one 4089.
     pub fn is_sendable(self) -> bool
         ensures { IsTrue result ↔ IsSendable self.entry }
     {

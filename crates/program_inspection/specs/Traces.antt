@@ -7,8 +7,8 @@ use Rattle.command_line.specs.declared.run_args.RunArgs.{RunArgs}
 use Rattle.program_tools.specs.Programs.{IsProgramFor}
 use Rattle.trace.specs.Trace.{IsTrace}
 
--- the requested program is accepted, and makes this choice after `count` instructions. No clause says
--- how the lines of its run look
+-- the requested program is accepted, and makes this choice after `count` instructions. No clause
+-- says how the lines of its run look
 abbrev pub HasTraced : KnownFiles → RunArgs → (choice count : ℕ) → Type 0
 HasTraced known run choice count =
     (p : ShapedProgram) × IsProgramFor known run.path.now run.shape p

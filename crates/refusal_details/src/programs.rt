@@ -8,8 +8,8 @@ use std::rt::Files;
 /// The first bytes of an object file of ELF, as compilers write it.
 const OBJECT: &[u8] = b"\x7fELF";
 
-/// Prints why the file of a program can't be read, if it can't; or if it is an object file in ELF, how
-/// to make a program of it.
+/// Prints why the file of a program can't be read, if it can't; or if it is an object file in ELF,
+/// how to make a program of it.
 // open: the line, and when there is one: rows.
 pub fn print_program_fault<R, D, E>(rt: &R, disk: &D, path: &str, err: &mut E) -> bool
 where

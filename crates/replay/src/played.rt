@@ -45,7 +45,8 @@ fn play_line(
     requested: &EventLine,
     event: &Event,
 ) -> Result<Reply, AllocError>
-    ensures { IfOk result (λ reply. IsLineReplied world.old requested.now event.now reply world.new) }
+    ensures { IfOk result (λ reply.
+        IsLineReplied world.old requested.now event.now reply world.new) }
 {
     match requested {
         EventLine::Step {

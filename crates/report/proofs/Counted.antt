@@ -10,7 +10,7 @@ use Rattle.report.specs.Members.{LineMembers}
 use Rattle.report.specs.Counts.{AddsLine, GoesUp, NotesEach, all_names, one_if}
 use Rattle.report.specs.Names.{names_if}
 use Rattle.report.specs.Questions.{AreTallies, limit_of, names_of}
-use Rattle.report.specs.Reading.{CountsLines}
+use Rattle.report.specs.Reading.{AddsLines, CountsLines}
 use Rattle.report.specs.Tallies.{RowName, capped, IsTally}
 use Rattle.report.specs.Windows.{event_in, event_in_window}
 use Rattle.report.specs.declared.counting.Report.{Report}
@@ -89,10 +89,17 @@ adds_nothing event r = record {
   tallies = each_stays QUESTIONS r.tallies.items;
 }
 
+one_added : (window : Window) (line : List ℕ) (old new : Report)
+    → AddsLine (event_in line) (event_in_window window line) old new
+    → AddsLines window (line ∷ []) old new
+unfolding AddsLines
+one_added window line old new adds = (new, adds, refl)
+
 pub counts_one : (window : Window) (line : List ℕ) (old new : Report)
     → AddsLine (event_in line) (event_in_window window line) old new
     → CountsLines window (line ∷ []) old new
 counts_one window line old new adds = record {
+  adds = one_added window line old new adds;
   extends = λ drawn before counted. record {
     drawn_is = adds.drawn ∙ counted.drawn_is;
     lines_counted = more_sum (λ l. one_if (is_some (event_in_window window l))) before line _ _ _

@@ -24,6 +24,12 @@ first_rest (y ∷ ys) x some is =
     let n : length (y ∷ ys) - 1 ≡ length ys = omega arith in
     ap (λ z. z ∷ ys) (sym is) ∙ ap (λ t. x ∷ t) (sym (ap (λ m. take m ys) n ∙ take-length ys))
 
+-- the same of a list of bytes
+pub first_byte : (xs : List ℕ) → 0 < length xs
+    → xs ≡ get_or xs 0 0 ∷ take (length xs - 1) (drop 1 xs)
+first_byte [] some = absurd (omega (arith, some))
+first_byte (y ∷ ys) some = first_rest (y ∷ ys) y some refl
+
 pub none_left : {X : Type 0} (xs : List X) → length xs < 1 → xs ≡ []
 none_left [] few = refl
 none_left (x ∷ xs) few = absurd (omega (arith, few))

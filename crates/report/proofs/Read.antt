@@ -6,20 +6,34 @@ use Rattle.std.specs.Io.KnownBytes.{Consumes, IsAtEnd}
 use Rattle.std.specs.Prelude.{IfNone, IfSome, Option, None, Some}
 use Rattle.report.specs.Counts.{Counts}
 use Rattle.report.specs.Lines.{grown, lines_after}
-use Rattle.report.specs.Reading.{CountsLines, ReadsLog, ReadsBlock}
+use Rattle.report.specs.Reading.{AddsLines, CountsLines, ReadsLog, ReadsBlock}
 use Rattle.report.specs.declared.counting.Report.{Report}
 use Rattle.report.specs.declared.window.Window.{Window}
 
+none_added : (window : Window) (r : Report) → AddsLines window [] r r
+unfolding AddsLines
+none_added window r = refl
+
 pub counts_none : (window : Window) (r : Report) → CountsLines window [] r r
 counts_none window r = record {
+  adds = none_added window r;
   extends = λ drawn before counted.
       subst (λ (lines : List (List ℕ)). Counts window lines drawn r) (sym (append-nil before))
       counted;
 }
 
+both_added : (window : Window) (xs ys : List (List ℕ)) (a b c : Report)
+    → AddsLines window xs a b → AddsLines window ys b c → AddsLines window (xs ++ ys) a c
+unfolding AddsLines
+both_added window [] ys a b c first last =
+    subst (λ (r : Report). AddsLines window ys r c) first last
+both_added window (x ∷ xs) ys a b c first last =
+    (first.0, first.1, both_added window xs ys first.0 b c first.2 last)
+
 pub counts_both : (window : Window) (xs ys : List (List ℕ)) (a b c : Report)
     → CountsLines window xs a b → CountsLines window ys b c → CountsLines window (xs ++ ys) a c
 counts_both window xs ys a b c first last = record {
+  adds = both_added window xs ys a b c first.adds last.adds;
   extends = λ drawn before counted.
       subst (λ (lines : List (List ℕ)). Counts window lines drawn c) (append_assoc before xs ys)
       (last.extends drawn (before ++ xs) (first.extends drawn before counted));
@@ -96,6 +110,28 @@ reads_both window xs ys x y z a b c first next = record {
       (sym (append_assoc xs ys bytes))
       (first.extends (ys ++ bytes) last (next.extends bytes last rest));
 }
+
+-- what is left of a block is read byte by byte
+module _ (window : Window) (first block : List ℕ) (start : Report) (begun : List ℕ) (old : Report)
+    (left : List ℕ) (so_far : (bytes : List ℕ) (last : Report)
+    → CountsLines window (lines_after begun (left ++ bytes)) old last
+    → CountsLines window (lines_after first (block ++ bytes)) start last) where
+  pub byte_read : (byte : ℕ) (rest next : List ℕ) (new : Report) → left ≡ byte ∷ rest
+      → ReadsBlock window (byte ∷ []) begun old next new → (bytes : List ℕ) (last : Report)
+      → CountsLines window (lines_after next (rest ++ bytes)) new last
+      → CountsLines window (lines_after first (block ++ bytes)) start last
+  byte_read byte rest next new left_is reads bytes last counted =
+      so_far bytes last
+      (subst (λ (l : List ℕ). CountsLines window (lines_after begun (l ++ bytes)) old last)
+      (sym left_is) (reads.extends (rest ++ bytes) last counted))
+
+  pub block_read : left ≡ [] → ReadsBlock window block first start begun old
+  block_read none = record {
+    extends = λ bytes last counted.
+        so_far bytes last
+        (subst (λ (l : List ℕ). CountsLines window (lines_after begun (l ++ bytes)) old last)
+        (sym none) counted);
+  }
 
 pub last_line : (window : Window) (begun : List ℕ) (old new : Report)
     → (length begun ≡ 0 → old ≡ new)

@@ -1,12 +1,21 @@
 -- What is counted in bytes that are read in pieces.
-use Rattle.std.specs.Prelude.{◌≡◌, List, ℕ, ◌++◌, Bool, Option, IfSome}
-use Rattle.report.specs.Counts.{Counts}
+use Rattle.std.specs.Prelude.{◌≡◌, List, [], ◌∷◌, ℕ, ◌++◌, Bool, Option, IfSome}
+use Rattle.report.specs.Counts.{AddsLine, Counts}
 use Rattle.report.specs.Lines.{lines_after, lines_in}
+use Rattle.report.specs.Windows.{event_in, event_in_window}
 use Rattle.report.specs.declared.counting.Report.{Report}
 use Rattle.report.specs.declared.window.Window.{Window}
 
--- adds these lines to any lines counted before, with a chart or without
+-- adds each line to whatever was counted, one after another
+unfoldable pub AddsLines : Window → (lines : List (List ℕ)) → (old new : Report) → Type 0
+AddsLines window [] old new = new ≡ old
+AddsLines window (line ∷ lines) old new =
+    (next : Report) × AddsLine (event_in line) (event_in_window window line) old next
+    × AddsLines window lines next new
+
+-- adds these lines, also to all lines counted before, with a chart or without
 pub record CountsLines (window : Window) (lines : List (List ℕ)) (old new : Report) : Type 0 where
+  pub adds : AddsLines window lines old new
   pub extends : (drawn : Bool) (before : List (List ℕ))
       → Counts window before drawn old → Counts window (before ++ lines) drawn new
 

@@ -1,6 +1,6 @@
-//! The page of a report: one file in HTML for an operator's browser, without scripts. It shows first
-//! what is wrong and what to do, then each app with its versions and its course, the loads, the
-//! requests, and the whole report.
+//! The page of a report: one file in HTML for an operator's browser, without scripts. It shows
+//! first what is wrong and what to do, then each app with its versions and its course, the loads,
+//! the requests, and the whole report.
 //!
 //! See docs/PROGRAM.md, "report".
 #![tactic(auto)]

@@ -1,10 +1,12 @@
 -- What a noted place keeps.
 use Rattle.std.proofs.Common.{◌≡◌, ◌∙◌, refl, sym, subst, ℕ, zero, suc, List, [], ◌∷◌, arith}
-use Rattle.std.proofs.Common.{Bool, true, false, not, if◌then◌else◌, ◌||◌, filter, nat_eq, get_or, All, Any}
+use Rattle.std.proofs.Common.{Bool, true, false, not, if◌then◌else◌, ◌||◌, filter, nat_eq, get_or}
+use Rattle.std.proofs.Common.{All, Any}
 use Rattle.std.proofs.lemmas.Bool.{and_parts, eq-eqb, eqb-true}
 use Rattle.std.proofs.lemmas.List.Elements.{All-cons, All-nil, filter_passes}
 use Rattle.std.proofs.lemmas.List.Kept.{AllPairs-cons, AllPairs-filter}
-use Rattle.report_state.specs.Places.{LogPlace, begins_with, are_alike, AreApart, GoesOn, Keeps, KeepsApart}
+use Rattle.report_state.specs.Places.{LogPlace, begins_with, are_alike, AreApart, GoesOn, Keeps}
+use Rattle.report_state.specs.Places.{KeepsApart}
 use Rattle.report_state.specs.Places.{join, joined_with}
 
 -- ---- prefixes

@@ -95,6 +95,7 @@ openings cell quota bound start moments numbers goes have k d lt =
     let left = covered start.opening bound moments numbers goes k d lt in (
       left.0,
       λ i e less yes.
-          All-contains (λ (t : ℕ). t < number) (sent_in moments) (get_or start.sent i e).reply left.1
+          All-contains
+          (λ (t : ℕ). t < number) (sent_in moments) (get_or start.sent i e).reply left.1
           (have i e less yes),
     )

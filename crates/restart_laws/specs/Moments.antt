@@ -1,5 +1,5 @@
--- What a start does with the number that a file has for a quota's cell, in the order of time. It may
--- be cut off at any moment.
+-- What a start does with the number that a file has for a quota's cell, in the order of time. It
+-- may be cut off at any moment.
 use Rattle.std.specs.Prelude.{◌≡◌, ℕ, suc, ◌<◌, ◌≤◌, max, IsTrue, List, [], ◌∷◌, All, Contains}
 use Rattle.cells.specs.declared.event.CellEvent.{CellEvent}
 use Rattle.restart_laws.specs.Starts.{Start, Crashed, MayLeave, takes_place}

@@ -14,11 +14,11 @@
 // each place that was sent to a client. Then no more places are sent than the quota has. Some may
 // be lost. That is the second law.
 //
-// Why a crash leaves such a value is the third law. A reply with a place is sent only once the place
-// is below each number that a crash may leave at that moment, and no commit stores a lower number.
-// These are rules of single moments, so each prefix of what a server does keeps them, and a crash is the
-// end of such a prefix. The rules are those of the workers (`answering`, the `requires` of
-// `send`) and of the store (`counter_store`, the clauses of `commit`).
+// Why a crash leaves such a value is the third law. A reply with a place is sent only once the
+// place is below each number that a crash may leave at that moment, and no commit stores a lower
+// number. These are rules of single moments, so each prefix of what a server does keeps them, and a
+// crash is the end of such a prefix. The rules are those of the workers (`answering`, the
+// `requires` of `send`) and of the store (`counter_store`, the clauses of `commit`).
 
 mod laws;
 

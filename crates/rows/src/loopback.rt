@@ -96,8 +96,8 @@ pub(crate) fn sent(rt: &HostRuntime, port: u16, bytes: &[u8]) -> io::Result<TcpS
     Ok(stream)
 }
 
-/// What comes back for the bytes of a file, by a port and the file's name. If the word `end` follows,
-/// nothing more is sent after them.
+/// What comes back for the bytes of a file, by a port and the file's name. If the word `end`
+/// follows, nothing more is sent after them.
 pub(crate) fn reply_of(rt: &HostRuntime, text: &str) -> io::Result<Printed> {
     let (port, text) = first_word(text);
     let (name, end) = first_word(text);

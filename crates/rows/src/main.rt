@@ -21,8 +21,8 @@ use anyhow::Result;
 use std::env;
 use std::process::ExitCode;
 
-/// Runs the rows of a file, and returns whether all are right. What is wrong with its text is printed
-/// with its name.
+/// Runs the rows of a file, and returns whether all are right. What is wrong with its text is
+/// printed with its name.
 fn run_named<T: Handles + 'static>(rt: &Logging<T>, name: &str) -> Result<bool> {
     match run_file(rt, name) {
         Ok(are_right) => Ok(are_right),

@@ -1,5 +1,5 @@
--- What may follow the beginning of a rule, according to the language itself: each sample of a word is
--- tried on its own line after the beginning, and may follow if the verdict doesn't call it
+-- What may follow the beginning of a rule, according to the language itself: each sample of a word
+-- is tried on its own line after the beginning, and may follow if the verdict doesn't call it
 -- misplaced.
 use Rattle.std.specs.Prelude.{◌≡◌, ℕ, ◌+◌, List, [], ◌∷◌, ◌++◌, codes, Err, ◌==◌}
 use Rattle.std.specs.Prelude.{Bool, true, false, not, nat_le, if◌then◌else◌}

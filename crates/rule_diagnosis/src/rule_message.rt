@@ -1,5 +1,5 @@
-//! The message about a refused rule. No clause says its words, its line and its column; rows compare
-//! them. What it names as expected is proved in `trial.rt`.
+//! The message about a refused rule. No clause says its words, its line and its column; rows
+//! compare them. What it names as expected is proved in `trial.rt`.
 
 use crate::caret::message_at;
 use crate::follower::{SAMPLES, expects_test, push_samples};

@@ -1,5 +1,6 @@
 -- A place that agrees with a partial place has a possible segment.
-use Rattle.std.proofs.Common.{◌≡◌, ◌∙◌, refl, ap, sym, subst, ⊎_elim, ℕ, ◌<◌, zero, suc, List, [], ◌∷◌}
+use Rattle.std.proofs.Common.{◌≡◌, ◌∙◌, refl, ap, sym, subst, ⊎_elim, ℕ, ◌<◌, zero, suc, List, []}
+use Rattle.std.proofs.Common.{◌∷◌}
 use Rattle.std.proofs.Common.{length, get_or, Bool, true, false, Option, Some, None, arith}
 use Rattle.std.proofs.Common.{replicate}
 use Rattle.std.specs.Prelude.{Contains, ◌==◌, ◌||◌, slice_index, slice_set, if◌then◌else◌}

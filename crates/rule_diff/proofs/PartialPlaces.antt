@@ -1,5 +1,5 @@
--- A place that agrees with a partial place agrees with it after one more of its segments, and has its
--- segments in each group.
+-- A place that agrees with a partial place agrees with it after one more of its segments, and has
+-- its segments in each group.
 use Rattle.std.proofs.Common.{◌≡◌, ◌∙◌, ℕ, ◌<◌, List, [], ◌∷◌, length}
 use Rattle.std.proofs.Common.{⊎_elim, refl, ap, sym}
 use Rattle.std.specs.Prelude.{true, Option, Some, None}

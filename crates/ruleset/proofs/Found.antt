@@ -145,7 +145,8 @@ first_and_others : (left : List AppRule) (app : AppRule) → 1 ≤ length left
 first_and_others [] app some is = absurd (omega (arith, some))
 first_and_others (x ∷ others) app some is =
     ap (λ (y : AppRule). y ∷ others) (sym is)
-    ∙ ap (λ (l : List AppRule). app ∷ l) (sym (take_all (length (x ∷ others) - 1) others (omega arith)))
+    ∙ ap (λ (l : List AppRule). app ∷ l)
+    (sym (take_all (length (x ∷ others) - 1) others (omega arith)))
 
 module _ (left apps : List AppRule) (app : AppRule) (appid : List ℕ) (found : Option (Bor AppRule))
     (ends : EndsIn left apps) (some : 1 ≤ length left) (is : app ≡ get_or left 0 app)
@@ -161,7 +162,8 @@ module _ (left apps : List AppRule) (app : AppRule) (appid : List ℕ) (found : 
   searched = search ∙ ap (λ (text : List ℕ). app_in others text) named
 
   pub is_again : is_some found ≡ true
-      → (IsTrue true → HasDuplicate (appids_of apps)) × (HasDuplicate (appids_of apps) → IsTrue true)
+      → (IsTrue true → HasDuplicate (appids_of apps))
+      × (HasDuplicate (appids_of apps) → IsTrue true)
   is_again again = (
     λ _. ends.here (subst (λ (l : List AppRule). HasDuplicate (appids_of l))
         (sym whole) (by found searched again)),
@@ -177,7 +179,8 @@ module _ (left apps : List AppRule) (app : AppRule) (appid : List ℕ) (found : 
   goes_on none = record {
     here = λ d. ends.here (subst (λ (l : List AppRule). HasDuplicate (appids_of l)) (sym whole)
         (duplicate_later app others d));
-    none = λ apart. ends.none (subst (λ (l : List AppRule). ¬ HasDuplicate (appids_of l)) (sym whole)
+    none = λ apart.
+        ends.none (subst (λ (l : List AppRule). ¬ HasDuplicate (appids_of l)) (sym whole)
         (no_duplicate app others (by found searched none) apart));
   }
     where

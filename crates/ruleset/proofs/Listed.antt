@@ -34,7 +34,8 @@ one_app apps once a b same left right = elim (cases_order left.0 right.0) [
     | inl before ↦ absurd
         (once (duplicate apps left.0 right.0 a b same before right.1 (sym left.2) (sym right.2)))
     | inr after ↦ absurd
-        (once (duplicate apps right.0 left.0 b a (sym same) after left.1 (sym right.2) (sym left.2)))
+        (once
+        (duplicate apps right.0 left.0 b a (sym same) after left.1 (sym right.2) (sym left.2)))
   ]
 ]
 

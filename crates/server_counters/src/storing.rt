@@ -14,7 +14,7 @@ use std::alloc::{AllocError, Global};
 /// The store of the counters of a server that is ready, with these halted apps, arrays and values.
 /// They are written to the file, which says from then on that it is served. Returns K4 if it can't
 /// be written, and B4 if an allocation fails.
-// open: when these are returned; that the store has these halted apps.
+// open: when these are returned; that the store has these halted apps, and the file all this: rows.
 pub fn store_of<F: KeptFile + Drop>(
     alloc: Global,
     mut file: F,

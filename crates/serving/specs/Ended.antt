@@ -39,8 +39,9 @@ abbrev pub runs_by_pass
 runs_by_pass by_worker = [] ∷ map runs_in_turn by_worker
 
 -- What remains of a server that began to serve with these cells and this control: these halted
--- apps, arrays and values. The values are those of its own counters, closed with all passes to
--- them. Answered lines of the operator, and nothing else, led from that control to the one at its
+-- apps and arrays, which are those of its end, and values. The values are those of its own
+-- counters, closed with all passes to them.
+-- Answered lines of the operator, and nothing else, led from that control to the one at its
 -- end. Each worker has answers, one after the other, none under an older ruleset than the one
 -- before. Each is under a published ruleset or a refusal, or withheld if that may be. What the
 -- worker did to the counters is what the runs of these answers did, and the operator only read

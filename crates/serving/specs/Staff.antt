@@ -14,7 +14,8 @@ pub record IsNewWorker (table : TableId) (known : KnownPrefix) (worker : PassVie
   pub pass : IsNewPass table worker.0
   pub watches : worker.1 ≡ known
 
--- the load of a server's start, as its control has it: this ruleset, from this path
+-- the load of a server's start, as its control has it: this ruleset and digest, from this path, at
+-- any time
 pub record IsLoadAtStart (loaded : LoadedRuleset) (path : List ℕ) (last : LastLoad) : Type 0 where
   pub rules_are : last.rules ≡ loaded.rules
   pub digest_is : last.digest ≡ loaded.digest

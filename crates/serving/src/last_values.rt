@@ -1,6 +1,6 @@
 //! What a server leaves, and the log lines of its end: that it has ended, and a line for each
-//! counter that isn't 0. They wait for places in the log's queue, so that none is lost if the log is
-//! read in time.
+//! counter that isn't 0. They wait for places in the log's queue, so that none is lost if the log
+//! is read in time.
 
 ghost use Rattle.std.specs.Prelude.{◌≡◌, ◌+◌, ◌<◌, IfErr, IfOk, IsTrue, length, slice_index};
 ghost use Rattle.serving.specs.Staffed.{IsEndFault};

@@ -14,7 +14,8 @@ pub enters : {S : Type 0} (o : List ℕ) (n slots cell : ℕ)
     → Enters (HasHistory {S = S} o n) slots cell (λ found view. Unit {0})
 enters {S} o n slots cell s rule homes small =
     let none : List Account = [] in
-    let sum : (f : List Account → ℕ) → f none ≡ 0 → sum_by f (s.views ++ none ∷ []) ≡ sum_by f s.views
+    let sum : (f : List Account → ℕ) → f none ≡ 0
+    → sum_by f (s.views ++ none ∷ []) ≡ sum_by f s.views
     = λ f zero. let more = sum_by_push f s.views none in omega (arith, more, zero) in (
       none,
       record {

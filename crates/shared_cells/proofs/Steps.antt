@@ -170,7 +170,8 @@ at_table cells_are seat_is belongs =
 module _ {S : Type 0} {cells now : CellsView} {seat pass : PassView} {o : List ℕ}
     {n slots id cell : ℕ} {op : CellOp} (me : Me S (List Account)) (at : ℕ)
     (cells_are : cells ≡ now) (seat_is : seat ≡ pass) (belongs : IsPassOf now pass)
-    (many : cells.table.words ≡ 8192) (room : at < 8192) (one : KnowsOne me) (here : cell ≡ at) where
+    (many : cells.table.words ≡ 8192) (room : at < 8192) (one : KnowsOne me)
+    (here : cell ≡ at) where
   -- the step of the call's operation
   pub allowed : {access : CellOp} (f : ℕ → ℕ) → op ≡ access → DoesTo at f access
       → (seat.table ≡ cells.table) × (at < cells.table.words)

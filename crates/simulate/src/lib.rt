@@ -10,8 +10,8 @@
 // history, run after run.
 //
 // A simulation is kept with its ruleset, so the releases of an app are available with the choices
-// of its buckets. The members of the JSON are defined. Rows compare the tables and the picture, whose
-// counts are those of `count_buckets` and `count_moves`.
+// of its buckets. The members of the JSON are defined. Rows compare the tables and the picture,
+// whose counts are those of `count_buckets` and `count_moves`.
 
 mod bucket_square;
 mod choices;

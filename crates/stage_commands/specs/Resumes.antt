@@ -62,9 +62,8 @@ module _ (known : KnownFiles) (manifest appid : List ℕ) (buckets : Option ℕ)
     pub plan : PlansResumeOf folder steps app buckets file
 
   -- a halt of the app is in force, or its last one is that of a release; its file then has what its
-  -- last recorded halt found there,
-  -- but for the number of its threshold if one is given; all other files are as before, and the
-  -- step is recorded
+  -- last recorded halt found there, but for the number of its threshold if one is given; all other
+  -- files are as before, and a step that replaces a file is recorded
   pub record HasResumed (old_records new_records : KnownRecords) (old new : KnownFolder)
       : Type 0 where
     pub recorded : RecordedSteps

@@ -33,7 +33,7 @@ module _ (known : KnownFiles) (manifest appid : List ℕ) (options : StageOption
     pub plan : PlansHaltOf folder app file
 
   -- the app's file, as the manifest in place has it, then halts the app; all other files are as
-  -- before, and the step is recorded
+  -- before, and a step that replaces a file is recorded
   pub record HasHalted (old_records new_records : KnownRecords) (old new : KnownFolder)
       : Type 0 where
     pub app : AppSources

@@ -21,7 +21,8 @@ pub record IsLast (records : KnownRecords) (step : StagingStep) : Type 0 where
 
 -- ---- a step
 
--- a step that replaces files is recorded, and then performed; one that replaces none does nothing
+-- a step that replaces files is recorded, and then performed; one that replaces none changes no
+-- file, and may be recorded
 pub record Performs (step : StagingStep) (old_records new_records : KnownRecords)
     (old new : KnownFolder) : Type 0 where
   pub recorded : ((step.files ≡ []) × (new_records ≡ old_records))
@@ -92,8 +93,8 @@ IsLeftUndone step old_records new_records old new =
     ⊎ (IsRecorded (as_undone step) old_records new_records
     × (new ≡ option_map (undone step.files) old))
 
--- no file has changed; or a step is added, and its files are replaced in part; or those of the last
--- step that isn't undone are restored, in part or all
+-- no file has changed; or a step is added, and its files are replaced; or those of the last step
+-- that isn't undone are restored; each in part or all
 pub data IsLeft (old_records new_records : KnownRecords) (old new : KnownFolder) : Type 0 where
   unchanged : AddAtMostOne old_records new_records old → new ≡ old
       → IsLeft old_records new_records old new

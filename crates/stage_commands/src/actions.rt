@@ -280,7 +280,8 @@ where
 /// whose path is given. The outcome says what is done, or why not and what to do.
 // open: whether an allocation fails, its one error; what is printed, what a server does, and which
 // stops there are: bench/outside. After a stop some files of a recorded step may be replaced, or
-// restored; `status` names them, and `back` restores them.
+// restored; `status` names them, and `back` restores them (by
+// `--anyway` if a server serves the step).
 pub fn stage_in<R, D, F>(
     rt: &R,
     disk: &D,

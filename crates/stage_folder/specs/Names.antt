@@ -1,5 +1,6 @@
 -- The names of a folder's files: parts between slashes.
-use Rattle.std.specs.Prelude.{◌≡◌, ℕ, ◌==◌, ◌++◌, List, [], ◌∷◌, length, filter, codes, not, ◌&&◌, ◌||◌}
+use Rattle.std.specs.Prelude.{◌≡◌, ℕ, ◌==◌, ◌++◌, List, [], ◌∷◌, length, filter, codes, not, ◌&&◌}
+use Rattle.std.specs.Prelude.{◌||◌}
 use Rattle.std.specs.Prelude.{Bool, false, if◌then◌else◌, Option, Some, None}
 use Rattle.std.specs.List.{join_with_byte, list_any, slice_split}
 use Rattle.std.specs.Str.{bytes_eq}

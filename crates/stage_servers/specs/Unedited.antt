@@ -35,13 +35,13 @@ abbrev pub AreFilesUnedited : (is_back : Bool) → KnownFolder → StagingStep
 AreFilesUnedited is_back folder step later =
     counts is_back step later ≡ true → All (IsLastLeft folder later) step.files
 
--- each file is as the last of these steps left it that replaced it
+-- each file is as the last of these steps left it that replaced it and isn't undone
 abbrev pub AreUnedited : (is_back : Bool) → KnownFolder → List StagingStep → Type 0
 AreUnedited is_back folder [] = Unit {0}
 AreUnedited is_back folder (step ∷ later) =
     AreFilesUnedited is_back folder step later × AreUnedited is_back folder later
 
--- the same of the recorded steps
+-- the same of the recorded steps that could be read
 abbrev pub IsUnedited : (is_back : Bool) → KnownRecords → KnownFolder → Type 0
 IsUnedited is_back records folder = (recorded : RecordedSteps)
     × AreRecorded records recorded × AreUnedited is_back folder recorded.steps.items

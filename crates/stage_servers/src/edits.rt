@@ -172,8 +172,8 @@ fn stop_by_records<F: StageFolder>(alloc: Global, folder: &F, is_back: bool) -> 
 }
 
 /// Stops before anything is changed, if no server says what it serves, and a file isn't as the last
-/// step left it that replaced it; unless `--anyway` is given. A halt doesn't stop. The files of the
-/// step that `back` is to undo are left to `undo`, which looks at them.
+/// step left it that replaced it and isn't undone; unless `--anyway` is given. A halt doesn't stop.
+/// The files of the step that `back` is to undo are left to `undo`, which looks at them.
 pub fn stop_if_edited<R, D, F>(
     call: &StageCall<'_, R, D>,
     folder: &F,

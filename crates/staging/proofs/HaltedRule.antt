@@ -53,7 +53,8 @@ module _ (one : (s : AppShape) (text : Bytes) → RuleHasOneVerdict s text) wher
 
   accepted : (s : AppShape) (fault : AppFault) → RefusesText halted_rule s fault
       → fault ≡ app.Memory
-  accepted s (app.Rule (Text (rule.At line kind))) (no_text other, memory) = absurd (other none_utf8)
+  accepted s (app.Rule (Text (rule.At line kind))) (no_text other, memory) =
+      absurd (other none_utf8)
   accepted s (app.Rule (Text (rule.At line kind))) (no_rule utf8 is, memory) =
       let same = one s halted_rule (Err (rule.At line kind)) (Ok []) is (none_verdict s) in
       absurd cc

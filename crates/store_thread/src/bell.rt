@@ -1,4 +1,5 @@
-//! The bell by which a server's threads wake the one that stores the counters, with the news for it.
+//! The bell by which a server's threads wake the one that stores the counters, with the news for
+//! it.
 
 ghost use Rattle.std.specs.Prelude.{◌≡◌, IfOk, option_map};
 ghost use Rattle.std.specs.Arc.{arc_value};
@@ -71,7 +72,8 @@ impl StoreBell {
 
     /// Notes what a control has, after another ruleset was installed: arrays may be new, and other
     /// apps may be halted. If an allocation fails, the note is lost until the next one. Until
-    /// then replies that take from a new quota are withheld, and a crash lifts a new halt.
+    /// then replies that take from a new quota are withheld, and a crash undoes a new halt or
+    /// resume.
     // open: that the thread adopts it: tests.
     pub fn note<H>(&self, rt: &H, control: &Control)
     where

@@ -21,8 +21,8 @@ const DAYSTART: &str = "\"daystart\":{\"elapsed_days\":7000,\"elapsed_seconds\":
 /// The first line of each request.
 const POST: &str = "POST /service/update2/json HTTP/1.1\r\n";
 
-/// Whether these bytes are a reply at the clock's moment, if the line has one; and none at all if the
-/// line has no status, as after P7 and P8.
+/// Whether these bytes are a reply at the clock's moment, if the line has one; and none at all if
+/// the line has no status, as after P7 and P8.
 fn is_reply(line: &Line, bytes: &[u8]) -> bool {
     bytes.is_empty() != line.outcome.contains("\"status\"")
         && text_of(bytes).contains(DAYSTART) == line.outcome.contains("200")

@@ -5,8 +5,8 @@ use Rattle.command_line.specs.Values.{HasFlag, HasShort, HasText, LacksShort, te
 use Rattle.tool_words.specs.AskWords.{HasCells}
 use Rattle.tool_words.specs.declared.args.WhyArgs.{WhyArgs}
 
--- the requests of a machine in logs, explained by a manifest, with counters from `--cells` or from a
--- server
+-- the requests of a machine in logs, explained by a manifest, with counters from `--cells` or from
+-- a server
 pub record HasWhy (rows : List Row) (args : WhyArgs) : Type 0 where
   pub manifest : HasText (codes "MANIFEST") rows args.manifest.now
   pub logs : map (λ log. log.now) args.logs.items ≡ texts_of (codes "LOG") rows

@@ -5,8 +5,8 @@
 #![tactic(auto)]
 
 // The run is the definition's own: the interpreter that keeps track of what is set makes its steps,
-// and after each step a line is written with what the state after it has. The program is accepted, so
-// the machine defines every step. Counters are named like in `explain`.
+// and after each step a line is written with what the state after it has. The program is accepted,
+// so the machine defines every step. Counters are named like in `explain`.
 
 mod changes;
 mod counter;

@@ -1,6 +1,7 @@
 -- Whether a property holds for some number below a bound, and for the app of some bucket.
 use Rattle.std.proofs.Common.{◌≡◌, ℕ, zero, suc, ◌+◌, ◌<◌, List, Bool, true, false, ◌||◌}
-use Rattle.std.proofs.Common.{Option, unwrap_or, refl, sym, ap, ◌∙◌, subst, arith, inl, inr, add-one}
+use Rattle.std.proofs.Common.{Option, unwrap_or, refl, sym, ap, ◌∙◌, subst, arith, inl, inr}
+use Rattle.std.proofs.Common.{add-one}
 use Rattle.std.proofs.lemmas.Bool.{cases_Bool, cases_lt, or_right}
 use Rattle.attrs.specs.Attributes.{Attributes, plain}
 use Rattle.warnings.specs.Evaluation.{any_below}
@@ -90,7 +91,8 @@ still_moved a b c place client is bucket =
     ap (λ (x : Attributes). moved x bucket) is ∙ client bucket
 
 module _ (question : Attributes → Bool) (named : Option ℕ) (a b c : Attributes) (k place : ℕ)
-    (got : Bool) (client : IsMoved a b) (placed : place ≡ unwrap_or named k) (is : c ≡ moved b place)
+    (got : Bool) (client : IsMoved a b) (placed : place ≡ unwrap_or named k)
+    (is : c ≡ moved b place)
     (answers : got ≡ question c) where
   here_is : question (moved a (unwrap_or named k)) ≡ got
   here_is =

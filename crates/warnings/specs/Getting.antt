@@ -42,7 +42,8 @@ has_client (When steps release) = needs_more steps
 
 abbrev pub statement_gets : RuleOfApp → Comparison → (version : List ℕ) → Statement → Bool
 statement_gets r by version (Count name index) = false
-statement_gets r by version (When steps release) = needs_more steps && client_gets r by version steps
+statement_gets r by version (When steps release) =
+    needs_more steps && client_gets r by version steps
 
 -- their evaluations for all releases cost at most 1000 units
 abbrev pub are_few : (evaluations : ℕ) → List Statement → Bool

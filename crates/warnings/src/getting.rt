@@ -118,8 +118,8 @@ fn are_few(evaluations: u64, statements: &[Statement]) -> bool
         && remaining_budget(evaluations, CLIENT_BUDGET, statements).is_some()
 }
 
-/// For how many clients of its `when`s a rule is evaluated: each of them for each release. `None` if
-/// that would cost more than 1000 units.
+/// For how many clients of its `when`s a rule is evaluated: each of them for each release. `None`
+/// if that would cost more than 1000 units.
 pub(crate) fn client_evaluations(evaluated: &EvaluatedRule<'_>) -> Option<u64>
     ensures { result ≡ specs.client_evaluations (rule_of evaluated.now) }
 {

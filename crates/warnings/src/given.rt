@@ -15,7 +15,8 @@ use releases::Release;
 use rule_lang::Comparison;
 use std::alloc::{AllocError, Global};
 
-// A warning if a client that has this version gets a release whose version compares by `by` with it.
+// A warning if a client that has this version gets a release whose version compares by `by` with
+// it.
 fn push_got_warning(
     alloc: Global,
     warnings: &mut Vec<Warning>,

@@ -74,7 +74,8 @@ pub(crate) fn push_when_warnings(
         → AreMarked (rule_of evaluated.now) (someone (rule_of evaluated.now) spots)
         marks.now.reached.items marks.now.ends.items → OnOk result (warnings.new.items
         ≡ warnings.old.items
-        ++ specs.statements_from app (rule_of evaluated.now) spots [] (rule_of evaluated.now).rule) }
+        ++ specs.statements_from app (rule_of evaluated.now) spots []
+        (rule_of evaluated.now).rule) }
 {
     let mut left = evaluated.statements;
     let mut reached = marks.reached.as_slice();

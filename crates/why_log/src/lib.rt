@@ -5,8 +5,8 @@
 // How it works. A log is read in blocks, and of the machine's lines the newest are kept. Each kept
 // line is read again as a request: its moment, and for each app the facts that the line has. The
 // apps are then explained as `ask --why` explains those of a body, on counters with given values.
-// The bucket is the line's, whether a cohort named it or not. A fact that no line has isn't guessed:
-// it counts as absent, and the explanation names it.
+// The bucket is the line's, whether a cohort named it or not. A fact that no line has isn't
+// guessed: it counts as absent, and the explanation names it.
 
 mod app_notes;
 mod explained_apps;

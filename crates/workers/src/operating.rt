@@ -26,7 +26,8 @@ use std::time::{Clock, Duration};
 const OPERATOR_SECONDS: u64 = 5;
 
 /// Answers connections until one requests a stop, or until `stop` is set and one more is accepted,
-/// which isn't answered. Loads change the control. The caller has to end the server. The line of a
+/// which isn't answered. Loads, halts and resumes change the control.
+/// The caller has to end the server. The line of a
 /// connection has to arrive within 5 seconds. Its reply has to be read within 5 seconds of being
 /// ready, since a load may take long. If the server's time limit is shorter, it holds instead.
 /// A connection that fails, or can't be accepted, is skipped.

@@ -13,7 +13,8 @@ pub struct ServeOptions<'a> {
     /// How long a connection may last.
     pub timeout: Duration,
     /// The log, with a line for each connection, even if it couldn't be accepted, and for each
-    /// load. If connections wait for a worker, their lines are queued together, late by at most a
+    /// load, halt and resume.
+    /// If connections wait for a worker, their lines are queued together, late by at most a
     /// second and a connection's time.
     pub log: Option<&'a LogQueue>,
 }

@@ -13,7 +13,8 @@ loop-left-preserved c =
           c.loop-left.invariant.0
           (c.in_ok-push_one.ensures.text
           ∙ ap (λ (bs : List ℕ). string_bytes c.loop-left.text ++ ended (halted_line bs)) value),
-      halt_seen IsText left (map string_bytes c.args.halted.now) a a _ c.in-len1-up.len_at_least refl
+      halt_seen IsText left (map string_bytes c.args.halted.now) a a _
+          c.in-len1-up.len_at_least refl
           (sym c.appid-item.is) c.loop-left.invariant.1
           (subst IsText value c.in_ok-push_one.ensures.is_text),
     )

@@ -8,7 +8,8 @@ use Rattle.counters_file.proofs.halted.push_halted.Given as goal
 abbrev pub invariant-loop-left : goal.invariant-loop-left
 invariant-loop-left l =
     (string_bytes l.text ++ flat_map ended (map halted_line (map string_bytes l.left))
-    ≡ string_bytes l.initial.text ++ flat_map ended (map halted_line (map string_bytes l.fn.halted)))
+    ≡ string_bytes l.initial.text
+    ++ flat_map ended (map halted_line (map string_bytes l.fn.halted)))
     × (All IsText (map string_bytes l.left) → All IsText (map string_bytes l.fn.halted))
 
 abbrev pub decreases-loop-left : goal.decreases-loop-left

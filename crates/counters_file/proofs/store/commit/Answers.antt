@@ -14,7 +14,8 @@ returns g c =
     let arrays = c.arrays-arrays.ensures.arrays in
     let back : AreCells c.args.values.now → contents_in c.as_bytes.result.now ≡ Ok (kept k)
     = λ cells. ap contents_in (c.as_bytes.ensures.value ∙ c.in-Ok.ensures.text)
-    ∙ c.reads_back.ensures k c.in-Ok.ensures.texts (c.if-not-all_can_be_halted.ensures refl) (record {
+    ∙ c.reads_back.ensures k c.in-Ok.ensures.texts
+    (c.if-not-all_can_be_halted.ensures refl) (record {
       names = c.in-Ok.ensures.names;
       directory = subst IsDirectory arrays c.arrays-arrays.ensures.directory;
       cells = cells;

@@ -16,7 +16,8 @@ returns-in_ok-split_within-in-Some c = λ classes done.
     let dimensions = c.deref.ensures.value ∙ ap (λ (s : Space). s.dimensions) c.space.view_is in
     let groups = c.deref-in-Some.ensures.value ∙ ap (λ (s : Space). s.groups) c.space.view_is in
     let partial = c.deref-in-Some-2.ensures.value ∙ c.pending.view_is in
-    split_loses_none space classes c.args.left.now.items c.args.pending.now c.split_within.new.left.items
+    split_loses_none space classes c.args.left.now.items c.args.pending.now
+    c.split_within.new.left.items
     d c.in-Some.of.now
     (ap (λ (ds : List Dimension). slice_get ds d) (sym dimensions)
     ∙ got_at c.deref.result.now d c.in-Some.of c.in-Some.ensures.lookup)

@@ -8,5 +8,6 @@ use Rattle.access_log.proofs.utc.Utc.written.Goals as goal
 pub unreachable-requires : goal.unreachable-requires
 unreachable-requires c =
     let time = c.args.self.now in
-    let is_text = IsUtf8-from_ascii (utc_text time) (plain_low (utc_text time) (time_stands time)) in
+    let is_text =
+    IsUtf8-from_ascii (utc_text time) (plain_low (utc_text time) (time_stands time)) in
     absurd (c.in-Err.ensures.cases.0 (subst IsUtf8 (sym c.text-bytes.ensures) is_text))
