@@ -12,7 +12,8 @@ use cell_assignments::{CellAssignment, read_assignments};
 use load::JudgedManifest;
 use manifest_diff::{DiffOptions, DiffOutput, OpenedBoth, diff_manifests};
 use printing::TextBuffer;
-use stage_servers::{Lines, StageCall, Stop, now_of, refused};
+use stage_servers::{Lines, StageCall, Stop, refused};
+use stage_text::now_of;
 use std::net::{Net, TcpStream};
 use std::time::Clock;
 

@@ -15,7 +15,8 @@ use crate::stop_texts::stopped_at;
 use printing::TextBuffer;
 use stage_folder::{StageFolder, StepFault, perform, write_record};
 use stage_records::{ReplacedFile, StagingStep, StepAction};
-use stage_servers::{Lines, RECORDS, StageCall, Stop, in_folder, now_of};
+use stage_servers::{Lines, RECORDS, StageCall, Stop, in_folder};
+use stage_text::now_of;
 use std::alloc::Global;
 use std::time::Clock;
 

@@ -4,12 +4,11 @@
 
 use crate::release_status::push_releases;
 use crate::replaced_files::file_named;
-use crate::shares::push_shares;
-use crate::step_lines::push_since;
 use load::{AppSources, whole_file};
 use manifest::ProgramSource;
 use printing::{TextBuffer, width_of};
 use stage_records::{FileState, ReplacedFile, StagingStep};
+use stage_text::{RuleText, push_since, rule_lines, rule_text};
 use staging::{is_in_force, last_halt};
 use std::alloc::{AllocError, Global};
 
@@ -93,6 +92,41 @@ fn since_of(
 
 // ---- an app
 
+// What each statement of an app's rule with these bytes offers; or one line that says why they
+// aren't a rule.
+fn offers_of(alloc: Global, app: &AppSources, bytes: &[u8]) -> Result<Vec<String>, AllocError> {
+    match rule_text(alloc, &app.entry, &app.shape, bytes)? {
+        RuleText::Rule(rule) => {
+            let lines = rule_lines(alloc, &app.entry, &rule);
+            drop(rule);
+            lines
+        }
+        RuleText::Other(sentence) => Vec::from_array(alloc, [sentence]),
+    }
+}
+
+// Adds these lines. The text `since` ends the first, and `indent` begins each further one.
+fn push_offers(
+    alloc: Global,
+    text: &mut TextBuffer,
+    app: &AppSources,
+    bytes: &[u8],
+    since: &str,
+    indent: &str,
+) {
+    let Ok(lines) = offers_of(alloc, app, bytes) else {
+        text.leave_out();
+        return;
+    };
+    let mut before = "";
+    let mut end = since;
+    for line in &lines {
+        text.push_all(&[before, line.as_str(), end, "\n"]);
+        before = indent;
+        end = "";
+    }
+}
+
 // Adds what a file with these bytes offered before a step of this number.
 fn push_file(
     standing: &Standing<'_>,
@@ -109,7 +143,7 @@ fn push_file(
     };
     match (app.entry.source(), bytes) {
         (ProgramSource::Rule(_), Some(bytes)) => {
-            push_shares(alloc, text, app, bytes, since.as_str(), indent)
+            push_offers(alloc, text, app, bytes, since.as_str(), indent)
         }
         (ProgramSource::Program(_), Some(_)) => {
             text.push_printed("by the program ", name, "");

@@ -10,11 +10,10 @@ ghost use Rattle.stage_servers.specs.Whole.{AreAllRead, IsAsLeft};
 use crate::options::StageCall;
 use crate::outcome::{Lines, Stop};
 use crate::refusals::{RECORDS, in_folder};
-use crate::replaced_files::file_named;
-use crate::step_lines::push_step;
 use printing::TextBuffer;
 use stage_folder::{RecordedSteps, StageFolder, recorded_steps};
 use stage_records::{FileState, ReplacedFile, StagingStep, StepAction};
+use stage_text::{push_step, step_state};
 use std::alloc::Global;
 
 /// How a file is now, compared with what a step found and left; one that can't be read counts as
@@ -27,37 +26,6 @@ pub(crate) fn state_of<F: StageFolder>(folder: &F, file: &ReplacedFile) -> FileS
         Ok(found) => file.state(found.as_deref()),
         Err(_) => FileState::Edited,
     }
-}
-
-// How a step left a file: as the next step that replaces it found it, or else as it is now.
-fn state_left<F: StageFolder>(folder: &F, file: &ReplacedFile, later: &[StagingStep]) -> FileState {
-    for step in later {
-        if let Some(next) = file_named(&step.files, file.name.as_str()) {
-            return file.state(next.before.as_deref());
-        }
-    }
-    state_of(folder, file)
-}
-
-// Whether a step stopped before all its files were replaced.
-fn has_stopped<F: StageFolder>(folder: &F, step: &StagingStep, later: &[StagingStep]) -> bool {
-    for file in &step.files {
-        if let FileState::Before = state_left(folder, file, later) {
-            return true;
-        }
-    }
-    false
-}
-
-// What became of a step, before these later ones.
-fn word_of<F: StageFolder>(folder: &F, step: &StagingStep, later: &[StagingStep]) -> &'static str {
-    if step.is_undone {
-        return "undone";
-    }
-    if has_stopped(folder, step, later) {
-        return "stopped";
-    }
-    "done"
 }
 
 // Whether a step is about an app, or about all apps of a manifest.
@@ -86,7 +54,8 @@ pub(crate) fn push_steps<F: StageFolder>(
     let mut left = steps;
     while let [step, later @ ..] = left {
         if later.len() < most && is_about(step, appid) {
-            push_step(alloc, text, word_of(folder, step, later), step);
+            let word = step_state(folder, step, later).name();
+            push_step(alloc, text, word, step);
         }
         left = later;
     }

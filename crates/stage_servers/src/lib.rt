@@ -36,9 +36,7 @@ mod server_halts;
 mod server_state;
 mod servers;
 mod serves;
-mod shares;
 mod status;
-mod step_lines;
 mod surveying;
 
 pub use collected::{app_named, collected_at};
@@ -57,5 +55,4 @@ pub use replaced_files::{bytes_of, file_named, replaced_file, sources_with};
 pub use server_halts::{apps_halted, apps_lifted, halt_again, halt_at_servers};
 pub use serves::{Serves, Surveyed};
 pub use status::push_status;
-pub use step_lines::{now_of, push_step, time_of};
 pub use surveying::survey;

@@ -3,10 +3,10 @@
 // No contract says what is printed: rows compare it.
 
 use crate::app_status::Standing;
-use crate::step_lines::push_since;
 use load::AppSources;
 use printing::TextBuffer;
 use stage_records::{StagingStep, StepAction};
+use stage_text::push_since;
 use staging::known_offer;
 use std::alloc::Global;
 

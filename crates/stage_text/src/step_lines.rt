@@ -47,15 +47,17 @@ fn short_time(time: &str, is_today: bool) -> &str {
     short.unwrap_or(time)
 }
 
-/// Adds who took a step, if that is known.
-pub(crate) fn push_user(text: &mut TextBuffer, step: &StagingStep) {
+// Adds who took a step, if that is known.
+fn push_user(text: &mut TextBuffer, step: &StagingStep) {
     if let Some(user) = &step.user {
         text.push_printed(" by ", user.as_str(), "");
     }
 }
 
-/// Adds since when a step is in force, and by whom. Times are in UTC.
-pub(crate) fn push_since(alloc: Global, text: &mut TextBuffer, step: &StagingStep, now: u64) {
+/// Adds since when a step is in force, and by whom. Times are in UTC: the hour and minute if `now`
+/// is the same day, else the date.
+// open: what the words are: rows.
+pub fn push_since(alloc: Global, text: &mut TextBuffer, step: &StagingStep, now: u64) {
     text.push("since ");
     match time_of(alloc, step.time) {
         Ok(time) => text.push(short_time(time.as_str(), step.time / DAY == now / DAY)),
@@ -64,25 +66,26 @@ pub(crate) fn push_since(alloc: Global, text: &mut TextBuffer, step: &StagingSte
     push_user(text, step);
 }
 
-// Adds what a step did.
-fn push_action(text: &mut TextBuffer, action: &StepAction) {
+/// Adds what a step did, such as `raise editor 2500`.
+// open: what the words are: rows.
+pub fn push_action(text: &mut TextBuffer, action: &StepAction) {
     match action {
-        StepAction::Halt { appid } => text.push_printed(": halt ", appid.as_str(), ""),
+        StepAction::Halt { appid } => text.push_printed("halt ", appid.as_str(), ""),
         StepAction::HaltRelease { appid, version } => {
-            text.push_printed(": halt ", appid.as_str(), "");
+            text.push_printed("halt ", appid.as_str(), "");
             text.push_printed(" ", version.as_str(), "");
         }
         StepAction::Raise { appid, buckets } => {
-            text.push_printed(": raise ", appid.as_str(), "");
+            text.push_printed("raise ", appid.as_str(), "");
             text.push_number(" ", *buckets as u64, "");
         }
         StepAction::Resume { appid, buckets } => {
-            text.push_printed(": resume ", appid.as_str(), "");
+            text.push_printed("resume ", appid.as_str(), "");
             if let Some(buckets) = *buckets {
                 text.push_number(" ", buckets as u64, "");
             }
         }
-        StepAction::Put { manifest } => text.push_printed(": put ", manifest.as_str(), ""),
+        StepAction::Put { manifest } => text.push_printed("put ", manifest.as_str(), ""),
     }
 }
 
@@ -96,6 +99,7 @@ pub fn push_step(alloc: Global, text: &mut TextBuffer, word: &str, step: &Stagin
         Err(_) => text.leave_out(),
     }
     push_user(text, step);
+    text.push(": ");
     push_action(text, &step.action);
     if let Some(because) = &step.because {
         text.push_printed(" (", because.as_str(), ")");

@@ -1,16 +1,12 @@
-//! What the rule of an app offers, a line for each `when`: `2.1 to 25 % of machines below 2.1`.
+//! The machines that a condition lets in, in words: `to 25 % of machines below 2.1`.
 
-// The first line whose machines a machine is among counts, so each further one begins with `else`.
-// A condition with `or` or `not` is named by its line.
-//
-// No contract says what is printed: rows compare it.
+// A condition with `or` or `not` is named by its line. No contract says what is printed: rows
+// compare it.
 
-use load::AppSources;
 use printing::TextBuffer;
 use rule_eval::{push_numbers, push_test};
-use rule_lang::{Comparison, Rule, RuleCondition, Statement, Step, Test, parse};
+use rule_lang::{Comparison, RuleCondition, Step, Test};
 use std::alloc::Global;
-use std::str;
 
 /// All buckets, to which a share is compared.
 const ALL_BUCKETS: u32 = 10000;
@@ -69,8 +65,8 @@ fn buckets_of(condition: &RuleCondition) -> Option<u32> {
     None
 }
 
-/// Adds a share of all buckets in percent, exactly.
-pub(crate) fn push_percent(text: &mut TextBuffer, buckets: u32) {
+// Adds a share of all buckets in percent, exactly.
+fn push_percent(text: &mut TextBuffer, buckets: u32) {
     let buckets = u64::from(buckets.min(ALL_BUCKETS));
     let (whole, rest) = (buckets / 100, buckets % 100);
     text.push_number("", whole, "");
@@ -157,8 +153,13 @@ fn line_of(condition: &RuleCondition) -> u64 {
     }
 }
 
-// Adds to whom a condition offers a release.
-fn push_machines(alloc: Global, text: &mut TextBuffer, condition: &RuleCondition, file: &str) {
+/// Adds to whom a condition in this file offers a release.
+pub(crate) fn push_machines(
+    alloc: Global,
+    text: &mut TextBuffer,
+    condition: &RuleCondition,
+    file: &str,
+) {
     if !is_chain(condition) {
         text.push_number(" by line ", line_of(condition), "");
         text.push_printed(" of ", file, "");
@@ -174,71 +175,4 @@ fn push_machines(alloc: Global, text: &mut TextBuffer, condition: &RuleCondition
         None => text.push(" to all"),
     }
     push_others(alloc, text, condition, share.is_some());
-}
-
-// The version of a release, by its number from 1.
-fn version_of(app: &AppSources, release: u8) -> &str {
-    match app
-        .entry
-        .releases()
-        .get(usize::from(release.saturating_sub(1)))
-    {
-        Some(release) => release.version(),
-        None => "no release",
-    }
-}
-
-// Adds what each statement offers. The first text follows the first of them, and the second one
-// precedes each further line.
-fn push_rule(
-    alloc: Global,
-    text: &mut TextBuffer,
-    app: &AppSources,
-    rule: &Rule,
-    since: &str,
-    indent: &str,
-) {
-    let mut is_first = true;
-    for statement in rule.statements() {
-        if let Statement::When { condition, release } = statement {
-            if !is_first {
-                text.push_all(&["\n", indent, "else "]);
-            }
-            text.push_printed("", version_of(app, *release), "");
-            push_machines(alloc, text, condition, app.entry.source().file());
-            if is_first {
-                text.push(since);
-            }
-            is_first = false;
-        }
-    }
-    if is_first {
-        text.push_all(&["nothing to anybody", since]);
-    }
-    text.push("\n");
-}
-
-/// Adds what a rule with these bytes offers. The text `since` ends its first line, and `indent`
-/// begins each further one.
-pub(crate) fn push_shares(
-    alloc: Global,
-    text: &mut TextBuffer,
-    app: &AppSources,
-    bytes: &[u8],
-    since: &str,
-    indent: &str,
-) {
-    let Ok(words) = str::from_utf8(bytes) else {
-        text.push_printed("", app.entry.source().file(), " isn't a text");
-        text.push_all(&[since, "\n"]);
-        return;
-    };
-    match parse(alloc, words, &app.shape) {
-        Ok(rule) => push_rule(alloc, text, app, &rule, since, indent),
-        Err(fault) => {
-            text.push_printed("", app.entry.source().file(), " isn't a rule (");
-            text.push_value(&fault);
-            text.push_all(&[")", since, "\n"]);
-        }
-    }
 }
