@@ -9,6 +9,7 @@ file of its link, and its figures are no more than a tenth off. README is short,
 of the installed toolchain; VERSION, README and CHANGELOG name one version. The pages by hand have
 few long sentences. Each wrong body can be put in place: what it replaces is in its file once.
 `plain.txt` and `weight.txt` bound the words of this house in comments, and the words of each page.
+The lines of sources have at most 100 columns.
 Each crate of a line of crates.txt is named there, and `edges.txt` has a reason for each that is
 named for little and drags much.
 Each file of rows is run, and its rows are counted anew; the examples that rows read are those of
@@ -31,8 +32,8 @@ import sys
 from pathlib import Path
 
 from checking import (
-    codes, commands, crates_page, edges, examples, left_open, members, plain, quotes, recipes, reference,
-    rows, transcripts, weight
+    codes, columns, commands, crates_page, edges, examples, left_open, members, plain, quotes, recipes,
+    reference, rows, transcripts, weight
 )
 from checking.edits import lost_edits
 from checking.exports import lost_comments
@@ -79,6 +80,7 @@ def faults():
     yield from other_versions()
     yield from other_help()
     yield from too_many_long()
+    yield from columns.too_wide()
     yield from plain.too_many()
     yield from weight.too_heavy()
     yield from edges.faults()
