@@ -111,15 +111,16 @@ impl<F: KeptFile + Drop> CounterStore<F> {
         Ok(())
     }
 
-    /// Whether there is something to store besides new values of cells without a quota. If there
-    /// isn't, no commit has failed last.
+    /// Whether there is something to store besides new values of cells without a quota.
     // open: whether there is: tests.
     pub fn is_wanted(&self) -> bool {
-        let is_wanted = self.has_news || self.ledger.is_wanted();
-        if !is_wanted {
-            self.ledger.kept().set_failing(false);
-        }
-        is_wanted
+        self.has_news || self.ledger.is_wanted()
+    }
+
+    /// Lets replies wait again after a commit that failed. It is called if nothing is wanted.
+    // open: that replies wait: tests.
+    pub fn forget_failure(&self) {
+        self.ledger.kept().set_failing(false);
     }
 
     /// Stores what the workers want, and then raises the ceilings. Cells without a quota get these

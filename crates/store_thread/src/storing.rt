@@ -106,6 +106,7 @@ impl<'b, 'c, 'l, F: KeptFile + Drop> Storing<'b, 'c, 'l, F> {
     {
         let is_due = is_due(rt, self.due);
         if !is_due && !self.store.is_wanted() {
+            self.store.forget_failure();
             self.note(rt, None);
             return;
         }
