@@ -7,3 +7,4 @@ mod Performed
 pub mod Positions
 mod Refused
 mod Replied
+mod StateWritten

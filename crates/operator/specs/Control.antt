@@ -1,6 +1,6 @@
 -- The operator's state: what was loaded last, which apps are halted, what was installed, and the
 -- server's arrays.
-use Rattle.std.specs.Prelude.{◌≡◌, ◌^◌, ◌-◌, ℕ, List, All, Option, Result, Ok, Err, Bool, true}
+use Rattle.std.specs.Prelude.{◌≡◌, ◌^◌, ◌-◌, ℕ, List, All, Result, Ok, Err, Bool, true}
 use Rattle.std.specs.Prelude.{IsTrue, IsFalse, IsSome, IsNone}
 use mathlib.Core.List.{IsPrefix}
 use Rattle.access_log.specs.declared.utc.Utc.{Utc}
