@@ -106,6 +106,18 @@ def before_halt():
     return re.search(r"`(then=\$\(mktemp -d\) .*?)`", text)[1]
 
 
+def wrong_digests(day, comparing):
+    """Two equal lines, also once logrotate has copied the log and emptied it."""
+    log = day.folder / "server.log"
+    written = log.read_bytes()
+    for when in ("comparing", "after a rotation"):
+        told = day.run(comparing).splitlines()
+        if len(told) != 2 or told[0] != told[1]:
+            return f"{when}: {told}"
+        os.truncate(log, 0)
+    log.write_bytes(written + log.read_bytes())
+
+
 def wrong_stages(day):
     """Raises a stage, halts it, and undoes both."""
     raising, moves, _ = section("OPERATING.md", "Raising a stage")
@@ -115,8 +127,8 @@ def wrong_stages(day):
         return f"before: {said}"
     if day.run(raising) != moves + REPLACED.format(2):
         return f"raising: {day.run(raising)}"
-    if len(told := day.run(comparing).splitlines()) != 2 or told[0] != told[1]:
-        return f"comparing: {told}"
+    if wrong := wrong_digests(day, comparing):
+        return wrong
     if OFFERED not in (said := day.run(ask)):
         return f"after it: {said}"
     if (said := day.run(buckets)).splitlines()[1:5] != ["0", "1", "2", "6"]:

@@ -11,8 +11,9 @@ import subprocess
 import tarfile
 
 from hosts import DEPLOY, PATIENCE, ROOT, Skipped, called, needs
-from operating import BUILT, PORTS, Day
+from operating import BUILT, OFFERED, PORTS, Day, asking
 
+HALTED = ", halted: editor\n"
 QUOTAS = [1, 2, 7, 1000, 9223372036854775807]
 # After SIGTERM: the seconds that rollout.service adds up, with some more.
 STOPPING = re.compile(r"^TimeoutStopSec=(\d+)$", re.M)
@@ -71,17 +72,32 @@ def wrong_shares(day):
 
 
 def wrong_put(day):
-    """A tar of the next rule, with the present manifest."""
+    """A tar of the next rule, with the present manifest; and once more as a rollback, after a halt."""
     packed = io.BytesIO()
     rule = (day.folder / "editor.rule").read_text().replace("< 500", "< 2500")
     (day.folder / "editor.rule.new").write_text(rule)
     with tarfile.open(fileobj=packed, mode="w") as tar:
         tar.add(day.folder / "current.toml", "current.toml")
         tar.add(day.folder / "editor.rule.new", "editor.rule")
+
+    def put(*options):
+        return in_pod(day, 0, 2, "put", *options, given=packed.getvalue())
+
     with day.served():
-        status, said = in_pod(day, 0, 2, "put", given=packed.getvalue())
+        status, said = put()
         if status or not said.endswith(f"server at {PORTS['8081']}: generation 2\n"):
             return f"put: {status} {said}"
+        day.run("rollout halt editor --operator 8081")
+        if not (said := day.run("rollout stage halt editor --operator 8081")).endswith(HALTED):
+            return f"halt: {said}"
+        status, said = put()
+        if (status, "this lifts the halt of editor" in said) != (1, True):
+            return f"put over a halt: {status} {said}"
+        status, said = put("--anyway")
+        if status or not said.endswith(", editor is offered again\n"):
+            return f"put --anyway: {status} {said}"
+        if OFFERED not in (said := day.run(asking())):
+            return f"after put --anyway: {said}"
     if (day.folder / "editor.rule").read_text() != rule:
         return "put: the rule isn't in place"
 

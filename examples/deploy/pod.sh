@@ -3,8 +3,9 @@
 # shares of all of them add up to the quota. In a pod of a StatefulSet its number is the end of its
 # name, and REPLICAS says how many pods there are.
 #
-#   pod.sh first FOLDER    copies the files of FOLDER, if the pod has no manifest yet
-#   pod.sh put             unpacks a tar of current.toml and its files from standard input, and loads
+#   pod.sh first FOLDER        copies the files of FOLDER, if the pod has no manifest yet
+#   pod.sh put [OPTION ..]     unpacks a tar of current.toml and its files from standard input, and
+#                              loads them by `rollout stage put`, with these options
 set -eu
 place=/etc/rollout
 
