@@ -31,8 +31,8 @@ const OPERATOR_SECONDS: u64 = 5;
 /// connection has to arrive within 5 seconds. Its reply has to be read within 5 seconds of being
 /// ready, since a load may take long. If the server's time limit is shorter, it holds instead.
 /// A connection that fails, or can't be accepted, is skipped.
-// open: which bytes a socket carries; that requests are answered one after another, and that it
-// returns only after a requested stop, or if the flag was set: tests.
+// open: which bytes a socket carries; that requests are answered one after another, in these time
+// limits, and that it returns only after a requested stop, or if the flag was set: tests.
 pub fn operate<'x, H, L, C, K, B>(
     rt: &H,
     listener: &'x TcpListener,
