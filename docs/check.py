@@ -16,8 +16,8 @@ Each file of rows is run, and its rows are counted anew; the examples that rows 
 `examples`, and the transcripts of pages are rows. The page of help that the launcher prints is that
 of the programs, and has each of their commands, as has each list of the commands of one program.
 CONTRIBUTING's recipes name each file that their searches find, and its exercise fits. ERRORS has
-each code of the sources, and other pages each option, each warning, and each member of requests,
-manifests and the log. Tests that pages name are there.
+each code of the sources, VERIFIER each rule, and other pages each option, each warning, and each
+member of requests, manifests and the log. Tests that pages name are there.
 
 usage: docs/check.py [--write | --reference FOLDER | --long | --words CRATE]
 
@@ -94,6 +94,7 @@ def faults():
     yield from recipes.lost_lines()
     yield from codes.lost_codes()
     yield from members.unlisted()
+    yield from members.other_lines()
     yield from members.lost_tests()
     yield from lost_edits()
 

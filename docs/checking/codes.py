@@ -1,10 +1,15 @@
-"""The index of errors: it has each code that the sources print, with its name, and no other."""
+"""The index of errors: it has each code that the sources print, with its name, and no other. The
+rules of VERIFIER's table are those of the sources."""
 import re
 
 from checking.places import CRATES, DOCS
 
 PAGE = DOCS / "ERRORS.md"
 PRINTED = re.compile(r'"([A-Z]\d+ [A-Z]\w+)')
+VERIFIER = DOCS / "VERIFIER.md"
+RULE = re.compile(r"^\| (V\d+ \w+) \|", re.M)
+# An allocation that failed, which is no rule.
+NO_RULE = {"V15 Memory"}
 LISTED = re.compile(r"`([A-Z]\d+ [A-Z]\w+)(?: [^`]*)?`")
 
 
@@ -20,3 +25,6 @@ def lost_codes():
     for it in sorted(printed() ^ {*LISTED.findall(rows)}):
         where = "only here" if it in text else "missing"
         yield f"{PAGE.name}: {it}: {where}, in comparison with the sources"
+    rules = {it for it in printed() if it.startswith("V")} - NO_RULE
+    for it in sorted(rules ^ {*RULE.findall(VERIFIER.read_text())}):
+        yield f"{VERIFIER.name}: {it}: its table and the sources differ"

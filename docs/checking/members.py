@@ -1,6 +1,6 @@
 """What the sources name, and pages list: each option, each warning, and each member of a request, of
-a manifest and of the log's lines. And each test that a page names is there: a crate of tests, a
-file of rows, a script of bench."""
+a manifest and of the log's lines. `bench/outside` knows the log's lines by the same members. And
+each test that a page names is there: a crate of tests, a file of rows, a script of bench."""
 import re
 
 from checking.places import CRATES, DOCS, ROOT, crates, pages
@@ -43,6 +43,24 @@ def unlisted():
         for name in sorted(names):
             if not is_listed(what, name, code):
                 yield f"{page}: it doesn't list the {what} {name}"
+
+
+SPECS = CRATES / "access_log" / "specs"
+NAMES = re.compile(r'codes "([a-z_0-9-]+)"')
+OF_LINES = re.compile(r'_(?:member|members|excerpt) \(codes "([a-z_0-9-]+)"\)')
+LOGGED = re.compile(r"^LOGGED = {\n(.*?)^}", re.M | re.S)
+# Each line has these.
+OF_EACH = {"time", "port", "kind"}
+
+
+def other_lines():
+    """Members of the log's lines that `bench/outside` doesn't know, or that no line has."""
+    table = LOGGED.search((ROOT / "bench" / "outside").read_text())
+    known = {*re.findall(r'"([^"]+)"', table[1])} if table else set()
+    lines = {*OF_LINES.findall((SPECS / "Line.antt").read_text())} - OF_EACH
+    every = {name for it in SPECS.glob("*.antt") for name in NAMES.findall(it.read_text())}
+    for name in sorted(lines - known | known - every):
+        yield f"bench/outside: LOGGED and the definitions of the log's lines differ in {name}"
 
 
 def lost_tests():
