@@ -7,11 +7,12 @@ import io
 import json
 import os
 import re
+import shutil
 import subprocess
 import tarfile
 
 from hosts import DEPLOY, PATIENCE, ROOT, Skipped, called, needs
-from operating import BUILT, OFFERED, PORTS, Day, asking
+from operating import BUILT, NOTHING, OFFERED, PORTS, Day, asking
 
 HALTED = ", halted: editor\n"
 QUOTAS = [1, 2, 7, 1000, 9223372036854775807]
@@ -102,6 +103,27 @@ def wrong_put(day):
         return "put: the rule isn't in place"
 
 
+def wrong_new_pod(day):
+    """A new pod begins with files that were halted without a server, as the head says: it offers
+    nothing."""
+    halted, made = day.folder / "halted", day.folder / "made"
+    halted.mkdir()
+    made.mkdir()
+    for name in ("current.toml", "editor.rule"):
+        shutil.copy(day.folder / name, halted)
+    said = day.run(f"rollout stage halt editor --folder {halted} --no-load")
+    if "replaced editor.rule\n" not in said:
+        return f"a halt of the files: {said}"
+    for name in ("current.toml", "editor.rule"):
+        shutil.copy(halted / name, made)
+    (day.folder / "current.toml").unlink()
+    if (found := in_pod(day, 0, 2, "first", "made")) != (0, ""):
+        return f"a new pod: {found}"
+    with day.served():
+        if NOTHING not in (said := day.run(asking())):
+            return f"a new pod after a halt: {said}"
+
+
 def wrong_settings():
     text, image = ((DEPLOY / it).read_text() for it in ("kubernetes.yaml", "Dockerfile"))
     unit = (DEPLOY / "rollout.service").read_text()
@@ -153,7 +175,7 @@ def known_members(_folder):
 def pods(folder, program=BUILT):
     needs("tar")
     day = Day(folder / "pods", program)
-    return wrong_settings() or wrong_shares(day) or wrong_put(day)
+    return wrong_settings() or wrong_shares(day) or wrong_put(day) or wrong_new_pod(day)
 
 
 def alerts(_folder):
