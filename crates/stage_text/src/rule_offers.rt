@@ -1,4 +1,4 @@
-//! The rule of an app's file, and its offers, a line for each `when`: `2.1 to 25 % of machines`.
+//! The rule of an app's file, and what it offers, a line for each `when`.
 
 // The first line whose machines a machine is among counts, so each further one begins with `else`.
 
