@@ -20,9 +20,9 @@ pub fn starts_grant_no_more()
     ensures { StartsGrantNoMore }
 {}
 
-/// Law: take a start that keeps two rules at each moment. No commit has a number below a place that
-/// was sent; and a place is sent only if each number that a crash may leave is above it. Then a
-/// crash leaves such a number at any moment.
+/// Law: take a start that keeps two rules at each moment. A commit's number isn't below the opening
+/// one, and is above each place that was sent. A place is sent only if each number that a crash may
+/// leave is above it. Then a crash leaves such a number at any moment.
 pub fn crashes_leave_openings()
     ensures enough { CrashesLeaveEnough }
     // So the next start may open the cell with it, as the law of starts requires.
