@@ -9,6 +9,8 @@ use Rattle.operator_request.specs.declared.request.OperatorRequest.TheVariants a
 use Rattle.command_words.specs.declared.request.Command.{Command}
 use Rattle.command_words.specs.declared.request.Command.TheVariants as command
 use Rattle.command_words.specs.declared.request.Plan.{Plan}
+use Rattle.command_words.specs.declared.task.Task.{Task}
+use Rattle.command_words.specs.declared.task.Task.TheVariants as task
 use Rattle.command_words.specs.declared.verb.Verb.{Verb}
 use Rattle.command_words.specs.declared.verb.Verb.TheVariants as verb
 
@@ -33,34 +35,38 @@ pub record HasUntracedRun (rows : List Row) (run : RunArgs) : Type 0 where
   pub run_is : HasRun rows run
   pub untraced : ¬ HasText (codes "trace") rows (codes "true")
 
-abbrev pub VerbMakes : Verb → List Row → Command → Type 0
-VerbMakes verb.Assemble rows (command.Assemble text out) =
+abbrev pub MakesTask : Verb → List Row → Task → Type 0
+MakesTask verb.Assemble rows (task.Assemble text out) =
     HasText (codes "IN") rows text.now × HasText (codes "OUT") rows out.now
-VerbMakes verb.Cells rows (command.Send sent.Cells port) = HasShort (codes "operator") rows port
-VerbMakes verb.Compile rows (command.Compile text shape out) =
+MakesTask verb.Cells rows (task.Send sent.Cells port) = HasShort (codes "operator") rows port
+MakesTask verb.Compile rows (task.Compile text shape out) =
     HasText (codes "IN") rows text.now × HasText (codes "OUT") rows out.now × HasShape rows shape
-VerbMakes verb.Halt rows (command.Send (sent.Halt appid) port) =
+MakesTask verb.Halt rows (task.Send (sent.Halt appid) port) =
     HasText (codes "APPID") rows appid.now × HasShort (codes "operator") rows port
-VerbMakes verb.List rows (command.List path) = HasText (codes "IN") rows path.now
-VerbMakes verb.Load rows (command.Send (sent.Load path) port) =
+MakesTask verb.List rows (task.List path) = HasText (codes "IN") rows path.now
+MakesTask verb.Load rows (task.Send (sent.Load path) port) =
     HasText (codes "PATH") rows path.now × HasShort (codes "operator") rows port
-VerbMakes verb.Replay rows (command.Replay manifest script) =
+MakesTask verb.Replay rows (task.Replay manifest script) =
     HasText (codes "MANIFEST") rows manifest.now × HasText (codes "SCRIPT") rows script.now
-VerbMakes verb.Resume rows (command.Send (sent.Resume appid) port) =
+MakesTask verb.Resume rows (task.Send (sent.Resume appid) port) =
     HasText (codes "APPID") rows appid.now × HasShort (codes "operator") rows port
-VerbMakes verb.Run rows (command.Run run) = HasUntracedRun rows run
-VerbMakes verb.Serve rows (command.Serve manifest counters plan) =
-    HasText (codes "MANIFEST") rows manifest.now
-    × (option_copied counters ≡ first_of (codes "counters") rows) × HasPlan rows plan
-VerbMakes verb.Show rows (command.Send sent.Show port) = HasShort (codes "operator") rows port
-VerbMakes verb.State rows (command.Send sent.State port) = HasShort (codes "operator") rows port
-VerbMakes verb.Stop rows (command.Send sent.Stop port) =
+MakesTask verb.Run rows (task.Run run) = HasUntracedRun rows run
+MakesTask verb.Show rows (task.Send sent.Show port) = HasShort (codes "operator") rows port
+MakesTask verb.State rows (task.Send sent.State port) = HasShort (codes "operator") rows port
+MakesTask verb.Stop rows (task.Send sent.Stop port) =
     HasShort (codes "operator") rows port × HasFlag (codes "wait") rows false
-VerbMakes verb.Stop rows (command.StopAndWait port) =
+MakesTask verb.Stop rows (task.StopAndWait port) =
     HasShort (codes "operator") rows port × HasFlag (codes "wait") rows true
-VerbMakes verb.Verify rows (command.Verify path shape) =
+MakesTask verb.Verify rows (task.Verify path shape) =
     HasText (codes "IN") rows path.now × HasShape rows shape
-VerbMakes verb rows command = ⊥
+MakesTask verb rows task = ⊥
+
+abbrev pub VerbMakes : Verb → List Row → Command → Type 0
+VerbMakes verb rows (command.Task task) = MakesTask verb rows task
+VerbMakes verb.Serve rows (command.Serve args) =
+    HasText (codes "MANIFEST") rows args.manifest.now
+    × (option_copied args.counters ≡ first_of (codes "counters") rows) × HasPlan rows args.plan
+VerbMakes verb rows (command.Serve args) = ⊥
 
 abbrev pub VerbMakesNone : Verb → List Row → Type 0
 VerbMakesNone verb rows = (command : Command) → ¬ VerbMakes verb rows command

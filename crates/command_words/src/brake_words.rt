@@ -6,6 +6,7 @@ ghost use Rattle.command_line.specs.Values.{OnWrong};
 ghost use Rattle.command_words.specs.Words.{VerbMakes, VerbMakesNone};
 
 use crate::request::Command;
+use crate::task::Task;
 use crate::verb::Verb;
 use clap::ArgMatches;
 use command_line::{ArgsError, number_of, text_of};
@@ -19,7 +20,7 @@ pub fn read_halt<'a>(found: &ArgMatches<'a>) -> Result<Command<'a>, ArgsError>
     let appid = text_of(found, "APPID")?;
     let port = number_of(found, "operator")?;
     let request = OperatorRequest::Halt(appid);
-    Ok(Command::Send { request, port })
+    Ok(Command::Task(Task::Send { request, port }))
 }
 
 /// The command of `resume`.
@@ -30,7 +31,7 @@ pub fn read_resume<'a>(found: &ArgMatches<'a>) -> Result<Command<'a>, ArgsError>
     let appid = text_of(found, "APPID")?;
     let port = number_of(found, "operator")?;
     let request = OperatorRequest::Resume(appid);
-    Ok(Command::Send { request, port })
+    Ok(Command::Task(Task::Send { request, port }))
 }
 
 /// The command of `state`.
@@ -39,8 +40,6 @@ pub fn read_state<'a>(found: &ArgMatches<'a>) -> Result<Command<'a>, ArgsError>
     ensures none { OnWrong result (VerbMakesNone Verb.State (rows_of (found_of found.now))) }
 {
     let port = number_of(found, "operator")?;
-    Ok(Command::Send {
-        request: OperatorRequest::State,
-        port,
-    })
+    let request = OperatorRequest::State;
+    Ok(Command::Task(Task::Send { request, port }))
 }

@@ -16,10 +16,12 @@ mod request;
 mod rows;
 mod server_rows;
 mod server_words;
+mod task;
 mod verb;
 mod words;
 
 pub use environment::words_of;
-pub use request::{Command, Plan};
+pub use request::{Command, Plan, ServeArgs};
 pub use rows::command_rows;
+pub use task::Task;
 pub use words::read_words;

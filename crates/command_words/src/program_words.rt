@@ -6,6 +6,7 @@ ghost use Rattle.command_line.specs.Values.{OnWrong};
 ghost use Rattle.command_words.specs.Words.{VerbMakes, VerbMakesNone};
 
 use crate::request::Command;
+use crate::task::Task;
 use crate::verb::Verb;
 use clap::ArgMatches;
 use command_line::{ArgsError, ArgumentFault, is_text, read_run, shape_of, text_of};
@@ -18,7 +19,7 @@ pub fn read_assemble<'a>(found: &ArgMatches<'a>) -> Result<Command<'a>, ArgsErro
 {
     let text = text_of(found, "IN")?;
     let out = text_of(found, "OUT")?;
-    Ok(Command::Assemble { text, out })
+    Ok(Command::Task(Task::Assemble { text, out }))
 }
 
 /// The command of `compile`.
@@ -29,7 +30,7 @@ pub fn read_compile<'a>(alloc: Global, found: &ArgMatches<'a>) -> Result<Command
     let text = text_of(found, "IN")?;
     let out = text_of(found, "OUT")?;
     let shape = shape_of(alloc, found)?;
-    Ok(Command::Compile { text, shape, out })
+    Ok(Command::Task(Task::Compile { text, shape, out }))
 }
 
 /// The command of `list`.
@@ -38,7 +39,7 @@ pub fn read_list<'a>(found: &ArgMatches<'a>) -> Result<Command<'a>, ArgsError>
     ensures none { OnWrong result (VerbMakesNone Verb.List (rows_of (found_of found.now))) }
 {
     let path = text_of(found, "IN")?;
-    Ok(Command::List { path })
+    Ok(Command::Task(Task::List { path }))
 }
 
 /// The command of `verify`.
@@ -48,7 +49,7 @@ pub fn read_verify<'a>(alloc: Global, found: &ArgMatches<'a>) -> Result<Command<
 {
     let path = text_of(found, "IN")?;
     let shape = shape_of(alloc, found)?;
-    Ok(Command::Verify { path, shape })
+    Ok(Command::Task(Task::Verify { path, shape }))
 }
 
 /// The command of `run`. `--trace` is an error, since `trace` is a command of its own.
@@ -60,7 +61,7 @@ pub fn read_run_command<'a>(alloc: Global, found: &ArgMatches<'a>) -> Result<Com
         return Err(ArgsError::Wrong(ArgumentFault::Trace));
     }
     match read_run(alloc, found) {
-        Ok(run) => Ok(Command::Run(run)),
+        Ok(run) => Ok(Command::Task(Task::Run(run))),
         Err(error) => Err(error),
     }
 }

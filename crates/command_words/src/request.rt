@@ -2,54 +2,24 @@
 
 ghost use Rattle.std.specs.Prelude.{◌≤◌};
 
-use command_line::{DeclaredShape, RunArgs};
-use operator_request::OperatorRequest;
+use crate::task::Task;
 
 /// A command of a command line.
 #[derive(Drop)]
 pub enum Command<'a> {
-    /// Assemble the text of one file into another.
-    Assemble {
-        text: &'a str,
-        out: &'a str,
-    },
-    /// Compile the rule of one file into another.
-    Compile {
-        text: &'a str,
-        shape: DeclaredShape,
-        out: &'a str,
-    },
-    /// List the instructions of a file's bytes.
-    List {
-        path: &'a str,
-    },
-    /// Play a script on a world that begins with a manifest's ruleset.
-    Replay {
-        manifest: &'a str,
-        script: &'a str,
-    },
-    /// Verify a file's program, and run it.
-    Run(RunArgs<'a>),
-    /// Send a request to a server's operator port.
-    Send {
-        request: OperatorRequest<'a>,
-        port: u16,
-    },
-    /// Serve the ruleset of a manifest, with the counters of a file, if one is named.
-    Serve {
-        manifest: &'a str,
-        counters: Option<&'a str>,
-        plan: Plan,
-    },
-    /// Stop a server, and wait until it has ended.
-    StopAndWait {
-        port: u16,
-    },
-    /// Verify a file's program.
-    Verify {
-        path: &'a str,
-        shape: DeclaredShape,
-    },
+    /// Serve until the operator stops the server.
+    Serve(ServeArgs<'a>),
+    /// Print an output, and end.
+    Task(Task<'a>),
+}
+
+/// The arguments of `serve`: a manifest, the file of the server's counters, if one is named, and
+/// how the server serves.
+#[derive(Drop)]
+pub struct ServeArgs<'a> {
+    pub manifest: &'a str,
+    pub counters: Option<&'a str>,
+    pub plan: Plan,
 }
 
 /// How a server serves: its two ports, the number of its workers, the time limit of a connection in

@@ -5,7 +5,8 @@ ghost use Rattle.clap.specs.Words.{Row, found_of, rows_of};
 ghost use Rattle.command_line.specs.Values.{HasFlag, HasShort, OnWrong};
 ghost use Rattle.command_words.specs.Words.{HasPlan, LacksPlan, VerbMakes, VerbMakesNone};
 
-use crate::request::{Command, Plan};
+use crate::request::{Command, Plan, ServeArgs};
+use crate::task::Task;
 use crate::verb::Verb;
 use clap::ArgMatches;
 use command_line::{
@@ -20,7 +21,7 @@ pub fn read_replay<'a>(found: &ArgMatches<'a>) -> Result<Command<'a>, ArgsError>
 {
     let manifest = text_of(found, "MANIFEST")?;
     let script = text_of(found, "SCRIPT")?;
-    Ok(Command::Replay { manifest, script })
+    Ok(Command::Task(Task::Replay { manifest, script }))
 }
 
 /// The command of `serve`.
@@ -30,11 +31,11 @@ pub fn read_serve<'a>(found: &ArgMatches<'a>) -> Result<Command<'a>, ArgsError>
 {
     let manifest = text_of(found, "MANIFEST")?;
     let plan = plan_of(found)?;
-    Ok(Command::Serve {
+    Ok(Command::Serve(ServeArgs {
         manifest,
         counters: optional_text(found, "counters"),
         plan,
-    })
+    }))
 }
 
 // How a server is to serve, by the options.
@@ -68,7 +69,7 @@ pub fn read_load<'a>(found: &ArgMatches<'a>) -> Result<Command<'a>, ArgsError>
     let path = text_of(found, "PATH")?;
     let port = number_of(found, "operator")?;
     let request = OperatorRequest::Load(path);
-    Ok(Command::Send { request, port })
+    Ok(Command::Task(Task::Send { request, port }))
 }
 
 /// The command of `show`.
@@ -77,10 +78,8 @@ pub fn read_show<'a>(found: &ArgMatches<'a>) -> Result<Command<'a>, ArgsError>
     ensures none { OnWrong result (VerbMakesNone Verb.Show (rows_of (found_of found.now))) }
 {
     let port = number_of(found, "operator")?;
-    Ok(Command::Send {
-        request: OperatorRequest::Show,
-        port,
-    })
+    let request = OperatorRequest::Show;
+    Ok(Command::Task(Task::Send { request, port }))
 }
 
 /// The command of `cells`.
@@ -89,10 +88,8 @@ pub fn read_cells<'a>(found: &ArgMatches<'a>) -> Result<Command<'a>, ArgsError>
     ensures none { OnWrong result (VerbMakesNone Verb.Cells (rows_of (found_of found.now))) }
 {
     let port = number_of(found, "operator")?;
-    Ok(Command::Send {
-        request: OperatorRequest::Cells,
-        port,
-    })
+    let request = OperatorRequest::Cells;
+    Ok(Command::Task(Task::Send { request, port }))
 }
 
 /// The command of `stop`.
@@ -102,18 +99,18 @@ pub fn read_stop<'a>(found: &ArgMatches<'a>) -> Result<Command<'a>, ArgsError>
 {
     let port = number_of(found, "operator")?;
     let wait = flag_of(found, "wait");
-    Ok(stop_or_wait(wait, port))
+    Ok(Command::Task(stop_or_wait(wait, port)))
 }
 
 // A request to stop, which waits for the server's end if `wait` is true.
-fn stop_or_wait<'a>(wait: bool, port: u16) -> Command<'a>
+fn stop_or_wait<'a>(wait: bool, port: u16) -> Task<'a>
     ensures { (rows : List Row) → HasShort (codes "operator") rows port
-        → HasFlag (codes "wait") rows wait → VerbMakes Verb.Stop rows result }
+        → HasFlag (codes "wait") rows wait → VerbMakes Verb.Stop rows (Command.Task result) }
 {
     if wait {
-        Command::StopAndWait { port }
+        Task::StopAndWait { port }
     } else {
-        Command::Send {
+        Task::Send {
             request: OperatorRequest::Stop,
             port,
         }

@@ -1,1 +1,1 @@
-mod Opened
+mod Refused

@@ -1,5 +1,3 @@
-pub mod Replays
 pub mod Texts
-pub mod Counters
-pub mod Outputs
+pub mod Ready
 pub mod Commands

@@ -5,25 +5,18 @@
 #![tactic(auto)]
 
 // How a command runs. `command_words` makes a command of its words; if it can't, what is wrong with
-// them is printed. The command works on a program or a script, sends a request to a server, or, for
-// `serve`, makes a server ready. Then the output's lines are printed. A ready server prints that it
-// serves, and serves until it is stopped. The status says whether all this was done.
+// them is printed. `tasks` does any command but `serve`. For `serve` a server is made ready, with
+// the file of its counters if one is named. It prints that it serves, and serves until it is
+// stopped. Then the file gets the counters that it leaves. The status says whether all this was
+// done.
 
-mod command_fault;
 mod details;
-mod halt_note;
-mod kept_counters;
 mod logged;
-mod output;
-mod refusing;
-mod removed_apps;
-mod replays;
-mod requests;
+mod ready;
 mod serve;
-mod starting;
+mod serve_fault;
 mod status;
-mod waiting;
 
-pub use load::{Device, Disk};
+pub use bounded_files::{Device, Disk};
 pub use server_log::LogOutput;
 pub use status::command;

@@ -1,83 +1,133 @@
-//! A server with its log. The log's thread starts before the server. After the server's end it has
-//! a while to write the remaining lines. A refused start also has a line.
+//! A server, with its log or without one. The log's thread starts before the server. After the
+//! server's end it has a while to write the remaining lines. A refused start also has a line.
 
+ghost use Rattle.std.specs.Duration.{as_nanos};
 ghost use Rattle.std.specs.Io.KnownBytes.{Appends};
-ghost use Rattle.std.specs.Prelude.{◌≡◌, ◌⊎◌, OnOk, IfErr, IfSome};
+ghost use Rattle.std.specs.Prelude.{◌≡◌, ◌*◌, ◌⊎◌, OnOk, IfErr};
 ghost use Rattle.serving.specs.Staffed.{IsStaffFault, IsEndFault};
 ghost use Rattle.workers.specs.Texts.{serving_line};
 
-use crate::command_fault::Fault;
-use crate::serve::serve_by;
-use command_words::{Command, Plan};
-use counter_store::CounterStore;
-use counters_file::KeptFile;
-use load::Disk;
+use crate::ready::KeptServer;
+use crate::serve_fault::ServeFault;
+use bounded_files::Disk;
+use command_words::{Plan, ServeArgs};
+use counters_file::DeviceFile;
 use server_counters::{Counters, Found};
 use server_log::{
     LogOutput, LogQueue, Starting, note_refused_start, note_start, start_log, write_refused_start,
 };
-use serving::{Server, ServingFault};
+use serving::{Manifests, ServingFault};
+use std::fs::File;
 use std::io::Write;
 use std::net::{Net, TcpListener, TcpStream};
+use std::rt::Files;
 use std::sync::Wait;
 use std::thread::Threads;
-use std::time::Clock;
+use std::time::{Clock, Duration};
+use workers::ServeOptions;
 
-/// Serves by the plan, and logs to standard error, also how the file of the counters was found, if
-/// there is one. Returns B4 if the log's memory or its thread fails.
-// open: that the lines of the start are of this manifest, server and outcome: tests.
-pub fn serve_logged<R, D, F, O>(
+/// Makes all that a server needs, and serves until the operator stops it. If a log was requested,
+/// it goes to standard error. Returns the counters that the server leaves, and their file. Once all
+/// is made, `out` gets the ready line of generation 1. Returns S1, H1 or B4 if out of memory before
+/// that; B4 if an allocation or a thread fails; B3 if `out` can't be written; and H2 if a watcher
+/// can't be read after the server's end.
+// open: what a connection sends, and that a server answers; that the lines of the start are of this
+// manifest, server and outcome: tests.
+pub fn serve_until_stopped<'a, R, D, O>(
     rt: &R,
     disk: &D,
-    server: Server,
-    manifest: &str,
-    plan: &Plan,
-    found: Option<Found>,
-    store: Option<CounterStore<F>>,
+    args: &ServeArgs<'_>,
+    ready: KeptServer<'a, R>,
     out: &mut O,
-) -> Result<(Counters, Option<F>), ServingFault>
+) -> Result<(Counters, Option<DeviceFile<'a, R>>), ServingFault>
 where
-    R: Threads + Wait + AllocGlobal + Clock + LogOutput + Copy + Drop + Send + Sync + 'static,
+    R: Files<File = File> + Threads + Wait + AllocGlobal + Clock + LogOutput,
+    R: Copy + Drop + Send + Sync + 'static,
     R: Net<Listener = TcpListener, Stream = TcpStream>,
+    R::File: Send,
+    R::Dir: Send,
     D: Disk + Sync,
-    F: KeptFile + Send + Drop,
     O: Write,
-    requires numbers { IfSome store (λ s. s.ledger.numbers ≡ server.values.items) }
-    requires arrays { IfSome store (λ s. s.ledger.arrays ≡ server.loaded.directory) }
     ensures printed { OnOk result
         (Appends (O.contents out.old) (O.contents out.new) (serving_line 1)) }
     ensures fault { IfErr result (λ e. IsStaffFault e ⊎ IsEndFault e) }
 {
-    let ports = server.ports();
-    let (queue, end) = match start_log(rt, ports.service().port()) {
+    if !args.plan.log {
+        return serve_by(rt, disk, &args.plan, ready, None, out);
+    }
+    let (queue, end) = match start_log(rt, args.plan.port) {
         Ok(log) => log,
         Err(fault) => {
-            drop(server);
+            drop(ready);
             return Err(ServingFault::Resource(fault));
         }
     };
-    let (port, operator) = (ports.service().port(), ports.operator().port());
-    let starting = starting_at(port, operator, manifest, found);
-    note_start(rt, &queue, starting, server.loaded());
-    let outcome = serve_by(rt, disk, server, plan, Some(&queue), store, out);
+    let starting = starting_of(args, ready.found);
+    note_start(rt, &queue, starting, ready.server.loaded());
+    let outcome = serve_by(rt, disk, &args.plan, ready, Some(&queue), out);
     note_outcome(rt, &queue, starting, &outcome);
     drop(queue);
     end.wait(rt);
     outcome
 }
 
-// A server that starts at these ports, and how the file of its counters was found.
-fn starting_at<'x>(
-    port: u16,
-    operator: u16,
-    manifest: &'x str,
-    found: Option<Found>,
-) -> Starting<'x> {
+// Serves by the plan, with a queue for the lines of the log, if there is one.
+fn serve_by<'a, R, D, O>(
+    rt: &R,
+    disk: &D,
+    plan: &Plan,
+    ready: KeptServer<'a, R>,
+    log: Option<&LogQueue>,
+    out: &mut O,
+) -> Result<(Counters, Option<DeviceFile<'a, R>>), ServingFault>
+where
+    R: Files<File = File> + Threads + Wait + AllocGlobal + Clock + Sync,
+    R: Net<Listener = TcpListener, Stream = TcpStream>,
+    R::File: Send,
+    R::Dir: Send,
+    D: Disk + Sync,
+    O: Write,
+    ensures printed { OnOk result
+        (Appends (O.contents out.old) (O.contents out.new) (serving_line 1)) }
+    ensures fault { IfErr result (λ e. IsStaffFault e ⊎ IsEndFault e) }
+{
+    let KeptServer {
+        server,
+        found: _found,
+        store,
+    } = ready;
+    let server = match server.staffed(rt, usize::from(plan.workers)) {
+        Ok(server) => server,
+        Err(fault) => {
+            drop(store);
+            return Err(fault);
+        }
+    };
+    match server.serve(rt, &Manifests::of(disk), store, service_of(plan, log), out) {
+        Ok(left) => Ok(left),
+        Err(fault) => Err(fault),
+    }
+}
+
+// How connections are served by the plan.
+fn service_of<'a>(plan: &Plan, log: Option<&'a LogQueue>) -> ServeOptions<'a>
+    ensures timeout { as_nanos result.timeout ≡ plan.now.timeout * 1000000000 }
+    ensures log { result.log ≡ log.entry }
+{
+    ServeOptions {
+        timeout: Duration::from_secs(u64::from(plan.timeout)),
+        log,
+    }
+}
+
+// A server that starts, and how the file of its counters was found. No port of a plan is 0, so the
+// server has these ports.
+fn starting_of<'x>(args: &ServeArgs<'x>, found: Option<Found>) -> Starting<'x> {
     let counters: Option<&'x str> = word_of(found);
     Starting {
-        manifest,
-        port,
-        operator,
+        manifest: args.manifest,
+        port: args.plan.port,
+        operator: args.plan.operator,
         counters,
     }
 }
@@ -111,16 +161,12 @@ where
 
 /// Logs that a server doesn't start, and why, if a log was requested. The line is lost if an
 /// allocation fails.
-// open: that the line is of this command and fault: tests.
-pub fn note_refusal<R>(rt: &R, command: &Command<'_>, fault: &Fault)
+// open: that the line is of these arguments and this fault: tests.
+pub fn note_refusal<R>(rt: &R, args: &ServeArgs<'_>, fault: &ServeFault)
 where
     R: AllocGlobal + Clock + LogOutput,
 {
-    let Command::Serve { manifest, plan, .. } = command else {
-        return;
-    };
-    if plan.log {
-        let starting = starting_at(plan.port, plan.operator, manifest, None);
-        write_refused_start(rt, starting, fault, fault.cause());
+    if args.plan.log {
+        write_refused_start(rt, starting_of(args, None), fault, fault.cause());
     }
 }

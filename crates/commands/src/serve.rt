@@ -1,103 +1,152 @@
-//! `serve`: a server, from ready to its operator's stop.
+//! `serve`: from its arguments to the status, after the server's end.
 
-ghost use Rattle.std.specs.Duration.{as_nanos};
+ghost use Rattle.std.specs.Prelude.{◌≡◌, ◌≤◌, OnOk};
 ghost use Rattle.std.specs.Io.KnownBytes.{Appends};
-ghost use Rattle.std.specs.Prelude.{◌≡◌, ◌*◌, ◌⊎◌, OnOk, IfErr, IfSome};
-ghost use Rattle.serving.specs.Staffed.{IsStaffFault, IsEndFault};
+ghost use Rattle.commands.specs.Commands.{HasServed};
 ghost use Rattle.workers.specs.Texts.{serving_line};
 
-use crate::logged::serve_logged;
-use command_words::Plan;
-use counter_store::CounterStore;
-use counters_file::KeptFile;
-use load::Disk;
-use server_counters::{Counters, Found};
-use server_log::{LogOutput, LogQueue};
-use serving::{Manifests, Server, ServingFault};
+use crate::details::print_details;
+use crate::logged::{note_refusal, serve_until_stopped};
+use crate::ready::{KeptServer, ready_server};
+use crate::serve_fault::ServeFault;
+use bounded_files::Disk;
+use command_line::refused;
+use command_words::ServeArgs;
+use counters_file::{CountersFault, KeptFile};
+use server_counters::{Counters, write_last};
+use server_log::{LogOutput, write_counters};
+use std::fs::File;
 use std::io::Write;
 use std::net::{Net, TcpListener, TcpStream};
+use std::rt::Files;
 use std::sync::Wait;
 use std::thread::Threads;
-use std::time::{Clock, Duration};
-use workers::ServeOptions;
+use std::time::Clock;
 
-/// Makes all that a server needs, and serves by the plan until the operator stops it, with its log
-/// or without one. `found` is how the file of its counters was found, if it has one. Returns the
-/// counters that it leaves. Once all is made, `out` gets the ready line of generation 1. Returns
-/// S1, H1 or B4 if out of memory before that; B4 if an allocation or a thread fails; B3 if `out`
-/// can't be written; and H2 if a watcher can't be read after the server's end.
-// open: what a connection sends, and that a server answers: tests.
-pub fn serve_until_stopped<R, D, F, O>(
+/// Serves until the operator stops the server, and returns the status: 0, or 1 if that is refused.
+/// `out` gets the line of the first generation once the server serves, and only a refusal goes to
+/// `err`, with a second line if `verbose`.
+// open: the lines of a refusal, and that the file then has the counters that are left: rows.
+pub fn serve<R, D, O, E>(
     rt: &R,
     disk: &D,
-    server: Server,
-    manifest: &str,
-    plan: &Plan,
-    found: Option<Found>,
-    store: Option<CounterStore<F>>,
+    args: &ServeArgs<'_>,
+    verbose: bool,
     out: &mut O,
-) -> Result<(Counters, Option<F>), ServingFault>
+    err: &mut E,
+) -> u8
 where
-    R: Threads + Wait + AllocGlobal + Clock + LogOutput + Copy + Drop + Send + Sync + 'static,
+    R: Files<File = File> + Threads + Wait + AllocGlobal + Clock + LogOutput,
+    R: Copy + Drop + Send + Sync + 'static,
     R: Net<Listener = TcpListener, Stream = TcpStream>,
+    R::File: Send,
+    R::Dir: Send,
     D: Disk + Sync,
-    F: KeptFile + Send + Drop,
     O: Write,
-    requires numbers { IfSome store (λ s. s.ledger.numbers ≡ server.values.items) }
-    requires arrays { IfSome store (λ s. s.ledger.arrays ≡ server.loaded.directory) }
-    ensures printed { OnOk result
-        (Appends (O.contents out.old) (O.contents out.new) (serving_line 1)) }
-    ensures fault { IfErr result (λ e. IsStaffFault e ⊎ IsEndFault e) }
+    E: Write,
+    ensures within { result ≤ 1 }
+    ensures served { result ≡ 0 → HasServed (D.known disk.now) args.now
+        (O.contents out.old) (O.contents out.new) }
+    ensures silent { result ≡ 0 → err.new ≡ err.old }
 {
-    // The port stays open until the log is written. So a client that waits for the server's end
-    // gets it after the log's last line.
-    let _open = server.ports().operator_handle();
-    if plan.log {
-        serve_logged(rt, disk, server, manifest, plan, found, store, out)
-    } else {
-        serve_by(rt, disk, server, plan, None, store, out)
+    match make_and_serve(rt, disk, args, out) {
+        Ok(()) => 0,
+        Err(fault) => {
+            let status = refused(err, &fault);
+            if verbose {
+                print_details(rt, disk, args, &fault, err);
+            }
+            drop(fault);
+            status
+        }
     }
 }
 
-/// Serves by the plan, with a queue for the lines of the log, if there is one.
-pub fn serve_by<R, D, F, O>(
+// Makes a server ready, and serves until the operator stops it. A fault is in the log, if there is
+// one.
+fn make_and_serve<R, D, O>(
     rt: &R,
     disk: &D,
-    server: Server,
-    plan: &Plan,
-    log: Option<&LogQueue>,
-    store: Option<CounterStore<F>>,
+    args: &ServeArgs<'_>,
     out: &mut O,
-) -> Result<(Counters, Option<F>), ServingFault>
+) -> Result<(), ServeFault>
 where
-    R: Threads + Wait + AllocGlobal + Clock + Sync,
+    R: Files<File = File> + Threads + Wait + AllocGlobal + Clock + LogOutput,
+    R: Copy + Drop + Send + Sync + 'static,
     R: Net<Listener = TcpListener, Stream = TcpStream>,
+    R::File: Send,
+    R::Dir: Send,
     D: Disk + Sync,
-    F: KeptFile + Send + Drop,
     O: Write,
-    requires numbers { IfSome store (λ s. s.ledger.numbers ≡ server.values.items) }
-    requires arrays { IfSome store (λ s. s.ledger.arrays ≡ server.loaded.directory) }
-    ensures printed { OnOk result
-        (Appends (O.contents out.old) (O.contents out.new) (serving_line 1)) }
-    ensures fault { IfErr result (λ e. IsStaffFault e ⊎ IsEndFault e) }
+    ensures { OnOk result (HasServed (D.known disk.now) args.now
+        (O.contents out.old) (O.contents out.new)) }
 {
-    let server = match server.staffed(rt, usize::from(plan.workers)) {
-        Ok(server) => server,
-        Err(fault) => return Err(fault),
+    match ready_server(rt, disk, args) {
+        Ok(ready) => {
+            serve_ready(rt, disk, args, ready, out)?;
+            Ok(())
+        }
+        Err(fault) => {
+            note_refusal(rt, args, &fault);
+            Err(fault)
+        }
+    }
+}
+
+// Serves until the operator stops the server, and prints a line once it serves. The file of its
+// counters then has those that it leaves.
+fn serve_ready<R, D, O>(
+    rt: &R,
+    disk: &D,
+    args: &ServeArgs<'_>,
+    ready: KeptServer<'_, R>,
+    out: &mut O,
+) -> Result<(), ServeFault>
+where
+    R: Files<File = File> + Threads + Wait + AllocGlobal + Clock + LogOutput,
+    R: Copy + Drop + Send + Sync + 'static,
+    R: Net<Listener = TcpListener, Stream = TcpStream>,
+    R::File: Send,
+    R::Dir: Send,
+    D: Disk + Sync,
+    O: Write,
+    ensures { OnOk result (Appends (O.contents out.old) (O.contents out.new) (serving_line 1)) }
+{
+    // The port stays open until the log and the file are written, and another server may have the
+    // file. So a client that waits for the server's end gets it after the log's last line, and may
+    // start the next server.
+    let _open = ready.server.ports().operator_handle();
+    match serve_until_stopped(rt, disk, args, ready, out) {
+        Ok((counters, file)) => write_left(rt, args, file, counters),
+        Err(fault) => Err(ServeFault::Serving(fault)),
+    }
+}
+
+// Writes what a server left to the file of its counters, if one is named. The server has given the
+// file back. The log says if it can't be written.
+fn write_left<R, F>(
+    rt: &R,
+    args: &ServeArgs<'_>,
+    file: Option<F>,
+    counters: Counters,
+) -> Result<(), ServeFault>
+where
+    R: AllocGlobal + Clock + LogOutput,
+    F: KeptFile + Drop,
+{
+    let kept = match file {
+        Some(mut file) => write_last(rt.alloc(), &mut file, &counters),
+        None if args.counters.is_none() => Ok(()),
+        None => Err(CountersFault::Store),
     };
-    match server.serve(rt, &Manifests::of(disk), store, service_of(plan, log), out) {
-        Ok(left) => Ok(left),
-        Err(fault) => Err(fault),
-    }
-}
-
-// How connections are served by the plan.
-fn service_of<'a>(plan: &Plan, log: Option<&'a LogQueue>) -> ServeOptions<'a>
-    ensures timeout { as_nanos result.timeout ≡ plan.now.timeout * 1000000000 }
-    ensures log { result.log ≡ log.entry }
-{
-    ServeOptions {
-        timeout: Duration::from_secs(u64::from(plan.timeout)),
-        log,
+    drop(counters);
+    match kept {
+        Ok(()) => Ok(()),
+        Err(fault) => {
+            if args.plan.log {
+                write_counters(rt, args.plan.port, &fault);
+            }
+            Err(ServeFault::Counters(fault))
+        }
     }
 }

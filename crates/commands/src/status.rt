@@ -1,21 +1,13 @@
 //! From the words of a command line to the status, with what is printed on the way.
 
-ghost use Rattle.std.specs.Prelude.{◌≡◌, ◌≤◌, IfSome, Some, map};
+ghost use Rattle.std.specs.Prelude.{◌≡◌, ◌≤◌, map};
 ghost use Rattle.command_line.specs.Printed.{IsGiven};
-ghost use Rattle.commands.specs.Commands.{AreWrong, IsAnswered, IsDone};
-ghost use Rattle.commands.specs.Counters.{OpensWith};
+ghost use Rattle.commands.specs.Commands.{AreWrong, HasSucceeded, IsDone};
 
-use crate::command_fault::Fault;
-use crate::halt_note::print_halt_note;
-use crate::kept_counters::{Opening, open_counters};
-use crate::output::CommandOutput;
-use crate::refusing::refuse;
-use crate::removed_apps::{apps_shown, print_removed_apps};
-use crate::requests::output_of;
-use crate::starting::start;
-use command_line::{is_verbose, print_output, usage};
+use crate::serve::serve;
+use bounded_files::Disk;
+use command_line::{is_verbose, usage};
 use command_words::{Command, read_words};
-use load::Disk;
 use server_log::LogOutput;
 use std::convert::AsStr;
 use std::fs::File;
@@ -25,6 +17,7 @@ use std::rt::Files;
 use std::sync::Wait;
 use std::thread::Threads;
 use std::time::Clock;
+use tasks::perform;
 
 /// Does what the words request, with files of the disk. The first word is the program's name.
 /// Results go to `out`, and only refusals and usage to `err`. With `--verbose` a refusal has a
@@ -54,7 +47,7 @@ where
         // A value of many parts is dropped by one call. Left to the end of the arm, each of its
         // parts would be dropped by its own call.
         Ok(command) => {
-            let status = perform_comparing(rt, disk, &command, is_verbose(words), out, err);
+            let status = carry_out(rt, disk, &command, is_verbose(words), out, err);
             drop(command);
             status
         }
@@ -66,8 +59,8 @@ where
     }
 }
 
-// Does what is requested. With `verbose`, a load also prints which apps it removed.
-fn perform_comparing<R, D, O, E>(
+// Serves, or does the task.
+fn carry_out<R, D, O, E>(
     rt: &R,
     disk: &D,
     command: &Command<'_>,
@@ -85,84 +78,11 @@ where
     O: Write,
     E: Write,
     ensures within { result ≤ 1 }
-    ensures done { result ≡ 0 → IsAnswered (D.known disk.now) command.now
+    ensures done { result ≡ 0 → HasSucceeded (D.known disk.now) command.now
         (O.contents out.old) (O.contents out.new) (IsGiven E.contents err.old err.new) }
 {
-    let before = apps_shown(rt, command, verbose);
-    let status = perform(rt, disk, command, verbose, out, err);
-    if status == 0 {
-        print_removed_apps(rt, command, before.as_str());
-        print_halt_note(rt, command);
-    }
-    status
-}
-
-// Does what is requested, and prints the output or the refusal, with its second line if `verbose`.
-// The file of a server's counters is opened first.
-fn perform<R, D, O, E>(
-    rt: &R,
-    disk: &D,
-    command: &Command<'_>,
-    verbose: bool,
-    out: &mut O,
-    err: &mut E,
-) -> u8
-where
-    R: Files<File = File> + Threads + Wait + AllocGlobal + Clock + LogOutput,
-    R: Copy + Drop + Send + Sync + 'static,
-    R: Net<Listener = TcpListener, Stream = TcpStream>,
-    R::File: Send,
-    R::Dir: Send,
-    D: Disk + Sync,
-    O: Write,
-    E: Write,
-    ensures within { result ≤ 1 }
-    ensures done { result ≡ 0 → IsAnswered (D.known disk.now) command.now
-        (O.contents out.old) (O.contents out.new) (IsGiven E.contents err.old err.new) }
-{
-    match open_counters(rt, command) {
-        Ok(opening) => perform_opened(rt, disk, command, opening, verbose, out, err),
-        Err(fault) => refuse(rt, disk, command, Fault::Counters(fault), verbose, err),
-    }
-}
-
-// The same, with what was opened.
-fn perform_opened<R, D, O, E>(
-    rt: &R,
-    disk: &D,
-    command: &Command<'_>,
-    opening: Opening<'_, R>,
-    verbose: bool,
-    out: &mut O,
-    err: &mut E,
-) -> u8
-where
-    R: Files<File = File> + Threads + Wait + AllocGlobal + Clock + LogOutput,
-    R: Copy + Drop + Send + Sync + 'static,
-    R: Net<Listener = TcpListener, Stream = TcpStream>,
-    R::File: Send,
-    R::Dir: Send,
-    D: Disk + Sync,
-    O: Write,
-    E: Write,
-    requires counters { OpensWith command.now opening.counters }
-    requires said { IfSome opening.file (λ own. opening.counters ≡ Some own.said.value) }
-    ensures within { result ≤ 1 }
-    ensures done { result ≡ 0 → IsAnswered (D.known disk.now) command.now
-        (O.contents out.old) (O.contents out.new) (IsGiven E.contents err.old err.new) }
-{
-    let Opening { file, mut counters } = opening;
-    let output = output_of(rt, disk, command, &mut counters);
-    drop(counters);
-    match output {
-        Ok(CommandOutput::Ready { server, plan }) => {
-            start(rt, disk, server, command, &plan, file, verbose, out, err)
-        }
-        Ok(output) => {
-            let status = print_output(&output, out, err);
-            drop(output);
-            status
-        }
-        Err(fault) => refuse(rt, disk, command, fault, verbose, err),
+    match command {
+        Command::Serve(args) => serve(rt, disk, args, verbose, out, err),
+        Command::Task(task) => perform(rt, disk, task, verbose, out, err),
     }
 }

@@ -15,7 +15,7 @@ returns-in-Err-clause-done g c zero =
 
 pub returns-in-Ok-clause-done : goal.returns-in-Ok-clause-done
 returns-in-Ok-clause-done g c zero =
-    inr (c.in-Ok.command, c.in-Ok.ensures.request, c.perform_comparing-status.ensures.done zero)
+    inr (c.in-Ok.command, c.in-Ok.ensures.request, c.carry_out-status.ensures.done zero)
 
 pub returns-in-Err-clause-wrong : goal.returns-in-Err-clause-wrong
 returns-in-Err-clause-wrong g c two =

@@ -1,0 +1,4 @@
+pub mod Replays
+pub mod Texts
+pub mod Outputs
+pub mod Answered
