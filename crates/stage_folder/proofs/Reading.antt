@@ -1,6 +1,6 @@
 -- The records that are read, one after the other.
-use Rattle.std.proofs.Common.{◌≡◌, ◌⊎◌, ◌++◌, ◌∷◌, ◌∙◌, ℕ, List, [], cond, inl, inr}
-use Rattle.std.proofs.Common.{ap, subst, sym, refl, append_assoc, append-nil}
+use Rattle.std.proofs.Common.{◌≡◌, ◌++◌, ◌∷◌, ◌∙◌, ℕ, List, [], cond}
+use Rattle.std.proofs.Common.{Bool, ap, subst, sym, refl, append_assoc, append-nil}
 use Rattle.std.specs.Prelude.{filter, filter_map, Some, None, IfSome, is_none, true, false}
 use Rattle.std.specs.Prelude.{Option, ◌==◌, if◌then◌else◌, option_and_then}
 use Rattle.std.specs.Prelude.{Result, Ok, Err, IfOk}
@@ -8,11 +8,12 @@ use Rattle.std.specs.List.{cons_option}
 use Rattle.std.specs.Prelude.{IsPermutation, IsSorted}
 use Rattle.std.specs.Ordering.{nat_cmp}
 use Rattle.std.proofs.lemmas.List.Sorted.{Contains-permutation, IsPermutation-sym}
+use Rattle.stage_records.specs.FileStates.{is_same_file}
 use Rattle.stage_records.specs.Steps.{StagingStep}
-use Rattle.stage_folder.specs.Folders.{GivesNumbers, GivesRecord, KnownRecords, record_known}
+use Rattle.stage_folder.specs.Folders.{GivesNumbers, GivesRecord, KnownRecords}
 use Rattle.stage_records.specs.Records.{step_in}
-use Rattle.stage_folder.specs.Recorded.{AreRead, AreRecorded, IsStepAt, if_numbered, step_at}
-use Rattle.stage_folder.specs.Recorded.{MayBeRecorded}
+use Rattle.stage_folder.specs.Recorded.{AreRead, AreRecorded, HasRecord, IsStepAt}
+use Rattle.stage_folder.specs.Recorded.{if_numbered, step_at}
 use Rattle.stage_folder.specs.declared.folder_fault.FolderFault.{FolderFault}
 use Rattle.stage_folder.specs.declared.records.RecordedSteps.{RecordedSteps}
 
@@ -125,11 +126,11 @@ otherwise_numbered (Some records) number bytes step given spelt other =
     sym (at_record number (records number) bytes step given spelt
     ∙ ap (λ b. if b then Some step else None) other)
 
--- ---- a record that may be written
+-- ---- a record, compared
 
-pub may_be : (step : StagingStep) (bytes : List ℕ) (old new : KnownRecords)
-    → step_in bytes ≡ Some step → (new ≡ old) ⊎ (new ≡ record_known step.number bytes old)
-    → MayBeRecorded step old new
-may_be step bytes old new spelt (inl same) = inl same
-may_be step bytes old new spelt (inr put) =
-    inr (record { bytes = bytes; spelt = spelt; put = put })
+pub compares : (known : KnownRecords) (number : ℕ) (bytes : List ℕ) (found : Option (List ℕ))
+    (has : Bool) → GivesRecord known number found → has ≡ is_same_file found (Some bytes)
+    → HasRecord known number bytes has
+compares None number bytes found has given is = tt
+compares (Some records) number bytes found has given is =
+    is ∙ ap (λ f. is_same_file f (Some bytes)) (sym given)

@@ -1,11 +1,14 @@
 -- The steps that the records of a folder spell.
 use Rattle.std.specs.Prelude.{◌≡◌, ◌⊎◌, ℕ, ◌==◌, List, filter, filter_map, if◌then◌else◌}
 use Rattle.std.specs.Prelude.{Option, Some, None, IfSome, is_none, option_and_then}
-use Rattle.std.specs.Prelude.{IsSorted}
+use Rattle.std.specs.Prelude.{Bool, IsSorted}
 use Rattle.std.specs.Ordering.{nat_cmp}
+use Rattle.stage_records.specs.FileStates.{is_same_file}
 use Rattle.stage_records.specs.Records.{step_in}
 use Rattle.stage_records.specs.Steps.{StagingStep}
 use Rattle.stage_folder.specs.Folders.{GivesNumbers, KnownRecords, Records, record_known}
+use Rattle.stage_folder.specs.declared.folder_fault.RecordFault.{RecordFault}
+use Rattle.stage_folder.specs.declared.folder_fault.RecordFault.TheVariants as fault
 use Rattle.stage_folder.specs.declared.records.RecordedSteps.{RecordedSteps}
 
 -- a step, if it has this number
@@ -40,6 +43,17 @@ pub record IsRecorded (step : StagingStep) (old new : KnownRecords) : Type 0 whe
   pub spelt : step_in bytes ≡ Some step
   pub put : new ≡ record_known step.number bytes old
 
+-- whether a record has these bytes
+abbrev pub HasRecord : KnownRecords → (number : ℕ) → (bytes : List ℕ) → (has : Bool) → Type 0
+HasRecord known number bytes has =
+    IfSome known (λ records. has ≡ is_same_file (records number) (Some bytes))
+
 -- the records are as before, or else the step is recorded
 abbrev pub MayBeRecorded : StagingStep → (old new : KnownRecords) → Type 0
 MayBeRecorded step old new = (new ≡ old) ⊎ IsRecorded step old new
+
+-- what a record that couldn't be written leaves
+abbrev pub IsLeftBy : RecordFault → StagingStep → (old new : KnownRecords) → Type 0
+IsLeftBy (fault.NotMade why) step old new = new ≡ old
+IsLeftBy (fault.NotKept why) step old new = IsRecorded step old new
+IsLeftBy (fault.Unknown why) step old new = MayBeRecorded step old new

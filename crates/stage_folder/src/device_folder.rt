@@ -7,6 +7,7 @@ use crate::note::FolderNote;
 use crate::record_folder::{RECORDS, has_records, make_records, numbers_in};
 use bounded_files::{IfDenied, Links, read_file, remove_file, replace_file};
 use std::fs::{self, File, TryLockError};
+use std::io::ErrorKind;
 use std::path::{Path, PathBuf};
 use std::rt::Files;
 
@@ -30,11 +31,13 @@ pub struct DeviceFolder<'a, R> {
 }
 
 impl<'a, R: Files<File = File> + AllocGlobal> DeviceFolder<'a, R> {
-    /// The folder at a path. Returns `NoFolder` if there is none.
+    /// The folder at a path. Returns `NoFolder` if there is none, and `System` if it can't be entered.
     // open: what a device contains: `bench/outside`.
     pub fn open(rt: &'a R, path: &str) -> Result<DeviceFolder<'a, R>, FolderFault> {
-        let Ok(whole) = Path::new(path).canonicalize(rt) else {
-            return Err(FolderFault::NoFolder);
+        let whole = match Path::new(path).canonicalize(rt) {
+            Ok(whole) => whole,
+            Err(error) if error.kind() == ErrorKind::NotFound => return Err(FolderFault::NoFolder),
+            Err(error) => return Err(FolderFault::from(error)),
         };
         let opened = fs::open(rt, whole.as_str())?;
         let found = opened.metadata()?;

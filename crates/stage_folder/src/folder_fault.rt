@@ -53,6 +53,17 @@ pub enum UndoFault {
     Stopped(StepFault),
 }
 
+/// Why a step isn't recorded, and what its record is then.
+#[derive(Clone, Copy, PartialEq, Eq)]
+pub enum RecordFault {
+    /// The records are as before.
+    NotMade(FolderFault),
+    /// The step is recorded, but its record may not survive a crash.
+    NotKept(FolderFault),
+    /// One of both: the record can't be read back.
+    Unknown(FolderFault),
+}
+
 impl From<AllocError> for FolderFault {
     ghost from_gives = { λ _ fault. fault ≡ Memory };
 

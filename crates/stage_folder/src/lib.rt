@@ -23,7 +23,7 @@ mod undoing;
 
 pub use device_folder::DeviceFolder;
 pub use folder::StageFolder;
-pub use folder_fault::{FolderFault, StepFault, UndoFault};
+pub use folder_fault::{FolderFault, RecordFault, StepFault, UndoFault};
 pub use laws::{performed_is_undoable, steps_leave, undone_restores};
 pub use note::{FolderNote, process_number};
 pub use numbering::next_number;

@@ -1,14 +1,16 @@
 //! The records of the steps in a folder.
 
-ghost use Rattle.std.specs.Prelude.{◌≡◌, ◌==◌, IfOk, IsPermutation, IsSorted, OnErr, OnOk, true};
+ghost use Rattle.std.specs.Prelude.{◌≡◌, ◌==◌, IfErr, IfOk, IsPermutation, IsSorted, OnOk, Some};
+ghost use Rattle.std.specs.Prelude.{true};
 ghost use Rattle.std.specs.Ordering.{nat_cmp};
 ghost use Rattle.stage_folder.specs.Steps.{has_distinct_names};
-ghost use Rattle.stage_folder.specs.Recorded.{AreRead, AreRecorded, IsRecorded, IsStepAt};
-ghost use Rattle.stage_folder.specs.Recorded.{MayBeRecorded};
+ghost use Rattle.stage_folder.specs.Recorded.{AreRead, AreRecorded, HasRecord, IsLeftBy};
+ghost use Rattle.stage_folder.specs.Recorded.{IsRecorded, IsStepAt};
+ghost use Rattle.stage_records.specs.Records.{step_in};
 
 use crate::distinct_names::has_distinct_names;
 use crate::folder::StageFolder;
-use crate::folder_fault::FolderFault;
+use crate::folder_fault::{FolderFault, RecordFault};
 use stage_records::{StagingStep, read_step, step_record};
 use std::alloc::Global;
 
@@ -91,31 +93,65 @@ fn step_at<F: StageFolder>(
     }
 }
 
+// Whether a record has these bytes.
+#[tactic(auto, using(crate::proofs::Reading::compares))]
+fn has_record<F: StageFolder>(folder: &F, number: u32, bytes: &[u8]) -> Result<bool, FolderFault>
+    ensures { IfOk result (HasRecord (F.records folder.now) number bytes.now) }
+{
+    match folder.read_record(number)? {
+        Some(found) => Ok(found.as_slice() == bytes),
+        None => Ok(false),
+    }
+}
+
+// Makes or replaces a step's record by these bytes. After an error the record is read back.
+fn put_step<F: StageFolder>(
+    folder: &mut F,
+    step: &StagingStep,
+    bytes: &[u8],
+) -> Result<(), RecordFault>
+    requires { step_in bytes.now ≡ Some step.now }
+    ensures recorded { OnOk result
+        (IsRecorded step.now (F.records folder.old) (F.records folder.new)) }
+    ensures failed { IfErr result (λ fault.
+        IsLeftBy fault step.now (F.records folder.old) (F.records folder.new)) }
+    ensures files { F.files folder.new ≡ F.files folder.old }
+{
+    let Err(fault) = folder.put_record(step.number, bytes) else {
+        return Ok(());
+    };
+    match has_record(&*folder, step.number, bytes) {
+        Ok(true) => Err(RecordFault::NotKept(fault)),
+        Ok(false) => Err(RecordFault::NotMade(fault)),
+        Err(_) => Err(RecordFault::Unknown(fault)),
+    }
+}
+
 /// Records a step whole: makes its record, or replaces it. This comes before the step's first file
 /// is replaced, and again after the step is undone. Returns `NotRecorded` if two of its files have
 /// one name, or if the record doesn't read back as this step.
-// open: which fault is returned.
-#[tactic(auto, using(crate::proofs::Reading::may_be))]
+// open: which `FolderFault` is returned.
 pub fn write_record<F: StageFolder>(
     alloc: Global,
     folder: &mut F,
     step: &StagingStep,
-) -> Result<(), FolderFault>
+) -> Result<(), RecordFault>
     ensures recorded { OnOk result
         (IsRecorded step.now (F.records folder.old) (F.records folder.new)) }
     ensures distinct { OnOk result (has_distinct_names step.now.files ≡ true) }
-    ensures failed { OnErr result
-        (MayBeRecorded step.now (F.records folder.old) (F.records folder.new)) }
+    ensures failed { IfErr result (λ fault.
+        IsLeftBy fault step.now (F.records folder.old) (F.records folder.new)) }
     ensures files { F.files folder.new ≡ F.files folder.old }
 {
     if !has_distinct_names(&step.files) {
-        return Err(FolderFault::NotRecorded);
+        return Err(RecordFault::NotMade(FolderFault::NotRecorded));
     }
-    match step_record(alloc, step)? {
-        Some(text) => match folder.put_record(step.number, text.as_bytes()) {
+    match step_record(alloc, step) {
+        Ok(Some(text)) => match put_step(folder, step, text.as_bytes()) {
             Ok(()) => Ok(()),
             Err(fault) => Err(fault),
         },
-        None => Err(FolderFault::NotRecorded),
+        Ok(None) => Err(RecordFault::NotMade(FolderFault::NotRecorded)),
+        Err(_) => Err(RecordFault::NotMade(FolderFault::Memory)),
     }
 }
