@@ -38,6 +38,10 @@ abbrev pub is_back : StageAction → Bool
 is_back action.Back = true
 is_back other = false
 
+abbrev pub is_put : StageAction → Bool
+is_put (action.Put manifest) = true
+is_put other = false
+
 -- a server serves an app that is neither in place nor in the next manifest
 abbrev pub is_strange : Serves → Bool
 is_strange (serves.Other loaded (Some appid)) = true

@@ -1,13 +1,13 @@
 -- When each file of a folder is as the last step that replaced it left it.
-use Rattle.std.specs.Prelude.{◌≡◌, ◌&&◌, ◌||◌, ℕ, List, [], ◌∷◌, All, Bool, true, false, not}
-use Rattle.std.specs.Prelude.{is_some}
+use Rattle.std.specs.Prelude.{◌≡◌, ◌==◌, ◌&&◌, ◌||◌, ℕ, List, [], ◌∷◌, All, Bool, true, false}
+use Rattle.std.specs.Prelude.{is_some, not}
 use Rattle.std.specs.List.{list_all, list_any}
 use Rattle.stage_folder.specs.Folders.{KnownFolder, KnownRecords}
 use Rattle.stage_folder.specs.Recorded.{AreRecorded}
 use Rattle.stage_folder.specs.declared.records.RecordedSteps.{RecordedSteps}
 use Rattle.stage_records.specs.Steps.{ReplacedFile, StagingStep, last_step}
 use Rattle.stage_records.specs.declared.action.StageAction.{StageAction}
-use Rattle.stage_servers.specs.Drift.{is_back, is_halt}
+use Rattle.stage_servers.specs.Drift.{is_halt, is_put}
 use Rattle.stage_servers.specs.Replaced.{file_named}
 use Rattle.stage_servers.specs.Whole.{IsAsLeft, only_looks}
 use Rattle.stage_servers.specs.declared.options.StageOptions.{StageOptions}
@@ -53,9 +53,18 @@ abbrev pub is_unknown : Serves → Bool
 is_unknown serves.Unknown = true
 is_unknown other = false
 
--- no server says what it serves, and the action changes a file, but isn't a halt, and isn't
--- continued by `--anyway`
+-- a server serves what the last step left, which isn't in place then
+abbrev pub serves_last : Serves → Bool
+serves_last (serves.Step number later files left) = later == 0
+serves_last other = false
+
+-- no server says what it serves; or one serves what the last step left, and the action isn't a put,
+-- whose rows begin with what is served
+abbrev pub depends_on_files : StageAction → List Surveyed → Bool
+depends_on_files action servers = list_all (λ server. is_unknown server.serves) servers
+    || (not (is_put action) && list_any (λ server. serves_last server.serves) servers)
+
+-- then an action that changes files, but no halt, looks at them, unless `--anyway` continues it
 abbrev pub compares_files : StageOptions → StageAction → List Surveyed → Bool
 compares_files options action servers =
-    not (only_looks action || is_halt action || options.anyway)
-    && list_all (λ server. is_unknown server.serves) servers
+    not (only_looks action || is_halt action || options.anyway) && depends_on_files action servers

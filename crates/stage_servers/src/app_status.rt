@@ -101,7 +101,11 @@ fn offers_of(alloc: Global, app: &AppSources, bytes: &[u8]) -> Result<Vec<String
             drop(rule);
             lines
         }
-        RuleText::Other(sentence) => Vec::from_array(alloc, [sentence]),
+        RuleText::Other(sentence) => {
+            let mut lines = Vec::new(alloc);
+            lines.push(sentence)?;
+            Ok(lines)
+        }
     }
 }
 

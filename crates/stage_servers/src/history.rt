@@ -11,21 +11,21 @@ use crate::options::StageCall;
 use crate::outcome::{Lines, Stop};
 use crate::refusals::{RECORDS, in_folder};
 use printing::TextBuffer;
-use stage_folder::{RecordedSteps, StageFolder, recorded_steps};
+use stage_folder::{FolderFault, RecordedSteps, StageFolder, recorded_steps};
 use stage_records::{FileState, ReplacedFile, StagingStep, StepAction};
 use stage_text::{push_step, step_state};
 use std::alloc::Global;
 
-/// How a file is now, compared with what a step found and left; one that can't be read counts as
-/// edited.
+/// How a file is now, compared with what a step found and left.
 #[tactic(auto, using(crate::proofs::Whole::as_left))]
-pub(crate) fn state_of<F: StageFolder>(folder: &F, file: &ReplacedFile) -> FileState
-    ensures { result ≡ After → IsAsLeft (F.files folder.now) file.now }
+pub(crate) fn state_of<F: StageFolder>(
+    folder: &F,
+    file: &ReplacedFile,
+) -> Result<FileState, FolderFault>
+    ensures { IfOk result (λ state. state ≡ After → IsAsLeft (F.files folder.now) file.now) }
 {
-    match folder.read(file.name.as_str()) {
-        Ok(found) => file.state(found.as_deref()),
-        Err(_) => FileState::Edited,
-    }
+    let found = folder.read(file.name.as_str())?;
+    Ok(file.state(found.as_deref()))
 }
 
 // Whether a step is about an app, or about all apps of a manifest.

@@ -7,18 +7,23 @@
 // How it works. A halt is sent to the servers before a file is read (`server_halts.rt`). Each
 // server's state is compared with the recorded steps (`surveying.rt`), by the digest of what a step
 // left (`earlier_files.rt`). An action but a halt stops if a server serves something else than is
-// in place (`drift.rt`). Once the files are changed, each server loads the manifest (`loads.rt`).
-// Its reply is noted (`load_notes.rt`), by which a status knows what an older server serves
-// (`servers.rt`).
+// in place (`drift.rt`), or if a file was edited (`edits.rt`). Once the files are changed, each
+// server loads the manifest (`loads.rt`), and then offers again the apps whose halts are lifted
+// (`halt_ends.rt`). Its reply is noted (`load_notes.rt`), by which a status knows what an older
+// server serves (`servers.rt`).
 //
 // A server's replies are its own. What is known of files is what `load` gathers.
 
+mod action_kinds;
 mod app_status;
 mod collected;
+mod comparing;
 mod digest_line;
 mod drift;
 mod earlier_files;
+mod edit_texts;
 mod edits;
+mod halt_ends;
 mod halted_app;
 mod history;
 mod load_notes;
@@ -26,6 +31,7 @@ mod loads;
 mod log_digest;
 mod options;
 mod outcome;
+mod place;
 mod quota_lines;
 mod refusals;
 mod release_status;
@@ -33,9 +39,11 @@ mod removed_apps;
 mod replaced_files;
 mod served;
 mod server_halts;
+mod server_loads;
 mod server_state;
 mod servers;
 mod serves;
+mod spared_servers;
 mod status;
 mod surveying;
 
@@ -43,6 +51,7 @@ pub use collected::{app_named, collected_at};
 pub use drift::{push_serves, stop_if_drifted};
 pub use earlier_files::{collected_as, collected_with};
 pub use edits::stop_if_edited;
+pub use halt_ends::{apps_halted, apps_lifted};
 pub use halted_app::halted_appid;
 pub use history::push_history;
 pub use loads::load_all;
@@ -52,7 +61,7 @@ pub use quota_lines::push_quotas;
 pub use refusals::{RECORDS, in_folder, no_manifest, refusal, refusal_of, refused};
 pub use release_status::halted_release;
 pub use replaced_files::{bytes_of, file_named, replaced_file, sources_with};
-pub use server_halts::{apps_halted, apps_lifted, halt_again, halt_at_servers};
+pub use server_halts::{halt_again, halt_at_servers};
 pub use serves::{Serves, Surveyed};
 pub use status::push_status;
 pub use surveying::survey;

@@ -5,11 +5,11 @@
 use crate::collected::digest_text;
 use crate::drift::push_serves;
 use crate::load_notes::{note_of, read_notes};
-use crate::loads::push_fault;
 use crate::options::StageCall;
 use crate::outcome::Lines;
 use crate::quota_lines::push_quotas;
 use crate::served::{InPlace, Served, are_both};
+use crate::server_loads::push_fault;
 use crate::serves::{Serves, Surveyed, push_halted, server_at};
 use crate::surveying::survey;
 use bounded_files::Disk;

@@ -29,7 +29,26 @@ use std::time::Clock;
 /// How many steps a status has.
 const LAST_STEPS: usize = 3;
 
-// Adds a file that isn't as a step left it. Returns whether it is.
+/// What follows the number of a step whose file is as it found it.
+const NOT_REPLACED: &str = " isn't replaced yet, or is restored already: call stage back\n";
+
+/// What follows the number of a step whose file is neither as it found it nor as it left it.
+const EDITED: &str = " was edited since: stage back would stop there\n";
+
+// Adds a file that isn't as a step left it, and why.
+fn push_unlike(number: u32, name: &str, end: &str, stderr: &mut TextBuffer) {
+    stderr.push_printed("stage: ", name, "");
+    stderr.push_number(" of step ", number as u64, end);
+}
+
+// Adds a file that can't be read, and why.
+fn push_unread_file(number: u32, name: &str, fault: FolderFault, stderr: &mut TextBuffer) {
+    push_unlike(number, name, ": ", stderr);
+    stderr.push_value(&fault);
+    stderr.push("\n");
+}
+
+// Adds a file that isn't as a step left it, or can't be read. Returns whether it is so.
 fn push_state<F: StageFolder>(
     folder: &F,
     number: u32,
@@ -38,14 +57,25 @@ fn push_state<F: StageFolder>(
 ) -> bool
     ensures { result ≡ true → IsAsLeft (F.files folder.now) file.now }
 {
-    let end = match state_of(folder, file) {
-        FileState::After => return true,
-        FileState::Before => " isn't replaced yet: call stage back, and then the action again\n",
-        FileState::Edited => " was edited since: stage back would stop there\n",
+    let name = file.name.as_str();
+    let state = match state_of(folder, file) {
+        Ok(state) => state,
+        Err(fault) => {
+            push_unread_file(number, name, fault, stderr);
+            return false;
+        }
     };
-    stderr.push_printed("stage: ", file.name.as_str(), "");
-    stderr.push_number(" of step ", number as u64, end);
-    false
+    match state {
+        FileState::After => true,
+        FileState::Before => {
+            push_unlike(number, name, NOT_REPLACED, stderr);
+            false
+        }
+        FileState::Edited => {
+            push_unlike(number, name, EDITED, stderr);
+            false
+        }
+    }
 }
 
 // The same of each of these files of a step.

@@ -8,104 +8,21 @@ ghost use Rattle.std.specs.Prelude.{Option, Some, true};
 ghost use Rattle.bounded_files.specs.Files.{KnownFiles};
 ghost use Rattle.load.specs.Opened.{IsCollected};
 ghost use Rattle.stage_servers.specs.Drift.{IsServedBy, IsSurveyed};
-ghost use Rattle.stage_servers.specs.Served.{IsGatheredAs};
 
 use crate::collected::app_named;
-use crate::load_notes::{note_of, read_notes};
+use crate::load_notes::note_of;
 use crate::options::StageCall;
+use crate::place::{Place, apps_of, is_in_place, place_of};
 use crate::removed_apps::{apps_shown, removed_app};
 use crate::server_state::{ServerState, digest_bytes, halted_in, state_in};
 use crate::serves::{Serves, Surveyed, step_with};
 use bounded_files::Disk;
-use load::{AppSources, CollectedManifest, collect_manifest, digest_of};
 use operator::ask_server;
 use operator_request::OperatorRequest;
-use stage_folder::{RecordedSteps, StageFolder, recorded_steps};
-use stage_records::{StageAction, StagingStep};
+use stage_folder::StageFolder;
+use stage_records::StageAction;
 use std::alloc::{AllocError, Global};
 use std::net::{Net, TcpStream};
-
-// What a folder has, for a comparison with what servers serve.
-#[derive(Drop)]
-struct Place {
-    recorded: Option<RecordedSteps>,
-    notes: String,
-    present: Option<CollectedManifest>,
-    next: Option<CollectedManifest>,
-}
-
-impl Place {
-    fn steps(&self) -> &[StagingStep] {
-        match &self.recorded {
-            Some(recorded) => recorded.steps.as_slice(),
-            None => &[],
-        }
-    }
-}
-
-// Whether what is in place has this digest.
-fn is_in_place(place: &Place, digest: [u8; 32]) -> bool
-    ensures { result ≡ true → IsGatheredAs digest place.now.present }
-{
-    let Some(present) = &place.present else {
-        return false;
-    };
-    match digest_of(&present.bytes, &present.sources.apps) {
-        Some(found) => found == digest,
-        None => false,
-    }
-}
-
-fn apps_of(collected: &Option<CollectedManifest>) -> &[AppSources] {
-    match collected {
-        Some(collected) => collected.sources.apps.as_slice(),
-        None => &[],
-    }
-}
-
-// The manifest that an action is to put in place, if it can be gathered.
-fn next_manifest<R, D>(
-    call: &StageCall<'_, R, D>,
-    action: &StageAction<'_>,
-) -> Option<CollectedManifest>
-where
-    R: AllocGlobal,
-    D: Disk,
-{
-    match *action {
-        StageAction::Put { manifest } => {
-            collect_manifest(call.rt.alloc(), call.disk, manifest).ok()
-        }
-        _ => None,
-    }
-}
-
-fn place_of<R, D, F>(
-    call: &StageCall<'_, R, D>,
-    folder: &F,
-    action: &StageAction<'_>,
-) -> Result<Place, AllocError>
-where
-    R: AllocGlobal,
-    D: Disk,
-    F: StageFolder,
-    ensures { IfOk result (λ place. IfSome place.present
-        (IsCollected (D.known call.now.disk.now) call.now.manifest.now)) }
-{
-    let alloc = call.rt.alloc();
-    let Ok(notes) = read_notes(alloc, folder) else {
-        return Err(AllocError);
-    };
-    let recorded = recorded_steps(alloc, folder).ok();
-    let present = collect_manifest(alloc, call.disk, call.manifest).ok();
-    let next = next_manifest(call, action);
-    Ok(Place {
-        recorded,
-        notes,
-        present,
-        next,
-    })
-}
 
 // An app that a server shows, and that isn't in place or in the next manifest.
 fn strange_app(alloc: Global, shown: &str, place: &Place) -> Result<Option<String>, AllocError> {

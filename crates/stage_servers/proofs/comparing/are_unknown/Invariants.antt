@@ -1,7 +1,7 @@
 use Rattle.std.proofs.Common.{◌≡◌, length}
 use Rattle.std.specs.List.{list_all}
 use Rattle.stage_servers.specs.Unedited.{is_unknown}
-use Rattle.stage_servers.proofs.edits.are_unknown.Given as goal
+use Rattle.stage_servers.proofs.comparing.are_unknown.Given as goal
 
 -- what is left decides
 abbrev pub invariant-loop-left : goal.invariant-loop-left
