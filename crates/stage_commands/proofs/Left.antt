@@ -6,15 +6,17 @@ use Rattle.std.specs.Prelude.{option_copied}
 use Rattle.stage_records.specs.Steps.{ReplacedFile, StagingStep, last_step}
 use Rattle.stage_records.specs.declared.step.StepAction.{StepAction}
 use Rattle.stage_folder.specs.Folders.{IsFree, KnownFolder, KnownRecords}
-use Rattle.stage_folder.specs.Recorded.{AreRecorded, IsRecorded, MayBeRecorded}
+use Rattle.stage_folder.specs.Recorded.{AreRecorded, IsLeftBy, IsRecorded, MayBeRecorded}
 use Rattle.stage_folder.specs.Steps.{IsFoundBy, IsPartlyDone, IsPartlyUndone, done}
 use Rattle.stage_folder.specs.Steps.{has_distinct_names, undone}
+use Rattle.stage_folder.specs.declared.folder_fault.RecordFault.{RecordFault}
+use Rattle.stage_folder.specs.declared.folder_fault.RecordFault.TheVariants as fault
 use Rattle.stage_folder.specs.declared.records.RecordedSteps.{RecordedSteps}
 use Rattle.stage_commands.specs.Backs.{Undoes}
-use Rattle.stage_commands.specs.Taken.{AddAtMostOne, IsLast, IsLeft, IsLeftUndone}
+use Rattle.stage_commands.specs.Taken.{AddAtMostOne, IsLast, IsLeft, IsLeftUndone, IsNext}
+use Rattle.stage_commands.specs.Taken.{IsTrueAfter, LeftBy, LeftByUndo, MayChange, RecordLeftBy}
+use Rattle.stage_commands.specs.Taken.{as_undone}
 use Rattle.stage_servers.specs.Whole.{AreAllRead}
-use Rattle.stage_commands.specs.Taken.{IsNext}
-use Rattle.stage_commands.specs.Taken.{LeftBy, LeftByUndo, MayChange, as_undone}
 use Rattle.stage_commands.specs.Taken.{Performs, Takes, unchanged, partly_done, partly_undone}
 use Rattle.stage_servers.specs.declared.options.StageOptions.{StageOptions}
 use Rattle.stage_servers.specs.declared.outcome.Stop.{Stop}
@@ -30,21 +32,15 @@ same (Some folder) = refl
 
 -- ---- before a file is changed
 
-adding_by : (why : Stop) (old_records new_records : KnownRecords) (old new : KnownFolder)
-    → AddAtMostOne old_records new_records old → new ≡ old
-    → LeftBy why old_records new_records old new
-adding_by (stop.Refused reason) old_records new_records old new adds e = (adds, e)
-adding_by (stop.Failed reason) old_records new_records old new adds e = unchanged adds e
-adding_by stop.Memory old_records new_records old new adds e = unchanged adds e
-
 pub unchanged_by : (why : Stop) (old_records new_records : KnownRecords) (old new : KnownFolder)
     → new_records ≡ old_records → new ≡ old → LeftBy why old_records new_records old new
-unchanged_by why old_records new_records old new same e =
-    adding_by why old_records new_records old new (inl same) e
+unchanged_by (stop.Refused reason) old_records new_records old new same e = (same, e)
+unchanged_by (stop.Failed reason) old_records new_records old new same e = unchanged (inl same) e
+unchanged_by stop.Memory old_records new_records old new same e = unchanged (inl same) e
 
 pub left_by : (why : Stop) (old_records new_records : KnownRecords) (old new : KnownFolder)
     → LeftBy why old_records new_records old new → IsLeft old_records new_records old new
-left_by (stop.Refused reason) old_records new_records old new left = unchanged left.0 left.1
+left_by (stop.Refused reason) old_records new_records old new left = unchanged (inl left.0) left.1
 left_by (stop.Failed reason) old_records new_records old new left = left
 left_by stop.Memory old_records new_records old new left = left
 
@@ -74,11 +70,39 @@ adds_one step old_records new_records old next (inr is) =
 
 pub not_recorded : (why : Stop) (step : StagingStep) (old_records new_records : KnownRecords)
     (old new : KnownFolder) → IsNext old_records old step
-    → MayBeRecorded step old_records new_records → new ≡ old
+    → RecordLeftBy why step old_records new_records → new ≡ old
     → LeftBy why old_records new_records old new
-not_recorded why step old_records new_records old new next may e =
-    adding_by why old_records new_records old new
-    (adds_one step old_records new_records old next may) e
+not_recorded (stop.Refused reason) step old_records new_records old new next left e = (left, e)
+not_recorded (stop.Failed reason) step old_records new_records old new next left e =
+    unchanged (adds_one step old_records new_records old next left) e
+not_recorded stop.Memory step old_records new_records old new next left e =
+    unchanged (adds_one step old_records new_records old next left) e
+
+pub may_be : (why : RecordFault) (step : StagingStep) (old new : KnownRecords)
+    → IsLeftBy why step old new → MayBeRecorded step old new
+may_be (fault.NotMade of) step old new left = inl left
+may_be (fault.NotKept of) step old new left = inr left
+may_be (fault.Unknown of) step old new left = left
+
+not_written : (said : Stop) (step : StagingStep) (old new : KnownRecords) → MayChange said
+    → MayBeRecorded step old new → RecordLeftBy said step old new
+not_written (stop.Refused reason) step old new may is = absurd may
+not_written (stop.Failed reason) step old new may is = is
+not_written stop.Memory step old new may is = is
+
+as_before : (said : Stop) (step : StagingStep) (old new : KnownRecords) → new ≡ old
+    → RecordLeftBy said step old new
+as_before (stop.Refused reason) step old new same = same
+as_before (stop.Failed reason) step old new same = inl same
+as_before stop.Memory step old new same = inl same
+
+pub record_left : (said : Stop) (why : RecordFault) (step : StagingStep) (old new : KnownRecords)
+    → IsTrueAfter why said → IsLeftBy why step old new → RecordLeftBy said step old new
+record_left said (fault.NotMade of) step old new is left = as_before said step old new left
+record_left said (fault.NotKept of) step old new is left =
+    not_written said step old new is (inr left)
+record_left said (fault.Unknown of) step old new is left =
+    not_written said step old new is left
 
 module _ (step : StagingStep) (old_records mid new_records : KnownRecords)
     (old between new : KnownFolder) (next : IsNext old_records old step)
@@ -204,8 +228,7 @@ pub left_undone : (why : Stop) (step : StagingStep) (old_records new_records : K
     (old new : KnownFolder) → IsLast old_records step
     → LeftByUndo why step old_records new_records old new
     → LeftBy why old_records new_records old new
-left_undone (stop.Refused reason) step old_records new_records old new last left =
-    (inl left.0, left.1)
+left_undone (stop.Refused reason) step old_records new_records old new last left = left
 left_undone (stop.Failed reason) step old_records new_records old new last left =
     partly_undone step last left
 left_undone stop.Memory step old_records new_records old new last left =

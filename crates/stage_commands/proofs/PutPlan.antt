@@ -14,8 +14,8 @@ use Rattle.stage_commands.specs.PutPlans.{IsLiftedBy, IsPresent, IsPutPlan, IsUn
 use Rattle.stage_commands.specs.Puts.{AreChangesTo, LiftsNone, PlansPut, none_lifted, none_offered}
 use Rattle.stage_servers.specs.Whole.{AreAllRead}
 use Rattle.stage_commands.specs.declared.puts.Plan.{Plan}
-use Rattle.stage_commands.specs.declared.puts.Present.{Present}
-use Rattle.stage_commands.specs.declared.puts.Present.TheVariants as present
+use Rattle.stage_commands.specs.declared.present.Present.{Present}
+use Rattle.stage_commands.specs.declared.present.Present.TheVariants as present
 
 pub lifts_none : (known : KnownFiles) (current : List ℕ) (folder : KnownFolder)
     (steps : List StagingStep) (there : Present) (next : List AppSources)

@@ -14,8 +14,8 @@ use Rattle.stage_servers.specs.Whole.{AreAllRead}
 use Rattle.stage_commands.specs.declared.put_files.Content.{Content}
 use Rattle.stage_commands.specs.declared.put_files.Content.TheVariants as content
 use Rattle.stage_commands.specs.declared.puts.Plan.{Plan}
-use Rattle.stage_commands.specs.declared.puts.Present.{Present}
-use Rattle.stage_commands.specs.declared.puts.Present.TheVariants as present
+use Rattle.stage_commands.specs.declared.present.Present.{Present}
+use Rattle.stage_commands.specs.declared.present.Present.TheVariants as present
 
 -- the manifest in place, if there is one, as it was gathered
 abbrev pub IsPresent : KnownFiles → (current : List ℕ) → KnownFolder → Present → Type 0

@@ -2,9 +2,11 @@
 use Rattle.std.specs.Prelude.{◌≡◌, ◌⊎◌, ℕ, List, [], true, false, Some, IfSome, option_map}
 use Rattle.std.specs.Prelude.{option_copied}
 use Rattle.stage_folder.specs.Folders.{IsFree, KnownFolder, KnownRecords}
-use Rattle.stage_folder.specs.Recorded.{IsRecorded}
+use Rattle.stage_folder.specs.Recorded.{IsRecorded, MayBeRecorded}
 use Rattle.stage_folder.specs.Steps.{IsFoundBy, IsPartlyDone, IsPartlyUndone, done}
 use Rattle.stage_folder.specs.Steps.{has_distinct_names, undone}
+use Rattle.stage_folder.specs.declared.folder_fault.RecordFault.{RecordFault}
+use Rattle.stage_folder.specs.declared.folder_fault.RecordFault.TheVariants as fault
 use Rattle.stage_folder.specs.declared.records.RecordedSteps.{RecordedSteps}
 use Rattle.stage_records.specs.Steps.{ReplacedFile, StagingStep, last_step}
 use Rattle.stage_records.specs.declared.step.StepAction.{StepAction}
@@ -105,11 +107,11 @@ pub data IsLeft (old_records new_records : KnownRecords) (old new : KnownFolder)
       → IsLeftUndone step old_records new_records old new
       → IsLeft old_records new_records old new
 
--- what says that nothing has changed leaves all files, and adds at most a step
+-- what says that nothing has changed leaves all records and files as before
 abbrev pub LeftBy : Stop → (old_records new_records : KnownRecords) → (old new : KnownFolder)
     → Type 0
 LeftBy (stop.Refused reason) old_records new_records old new =
-    AddAtMostOne old_records new_records old × (new ≡ old)
+    (new_records ≡ old_records) × (new ≡ old)
 LeftBy other old_records new_records old new = IsLeft old_records new_records old new
 
 -- it doesn't say so
@@ -124,3 +126,15 @@ LeftByUndo (stop.Refused reason) step old_records new_records old new =
     (new_records ≡ old_records) × (new ≡ old)
 LeftByUndo other step old_records new_records old new =
     IsLeftUndone step old_records new_records old new
+
+-- ---- a record that can't be written
+
+-- a stop says that nothing has changed only if the records are as before
+abbrev pub IsTrueAfter : RecordFault → Stop → Type 0
+IsTrueAfter (fault.NotMade why) stop = Unit {0}
+IsTrueAfter other stop = MayChange stop
+
+-- the records after a stop at a step's record
+abbrev pub RecordLeftBy : Stop → StagingStep → (old new : KnownRecords) → Type 0
+RecordLeftBy (stop.Refused reason) step old new = new ≡ old
+RecordLeftBy other step old new = MayBeRecorded step old new

@@ -11,8 +11,9 @@ ghost use Rattle.stage_folder.specs.Steps.{edited_place, undone};
 ghost use Rattle.stage_records.specs.Steps.{last_step};
 
 use crate::restored::compare_restored;
+use crate::step_stops::{not_noted, not_undone};
 use crate::steps::{name_at, read_steps};
-use crate::stop_texts::{EDITED, NOTHING_TO_UNDO, not_noted, not_undone};
+use crate::stop_texts::{EDITED, NOTHING_TO_UNDO};
 use bounded_files::Disk;
 use stage_folder::{StageFolder, StepFault, UndoFault, edited_file, undo, write_record};
 use stage_records::{StagingStep, last_step};
@@ -62,6 +63,7 @@ fn restore_files<F: StageFolder>(
 }
 
 // Records that a step is undone.
+#[tactic(auto, using(crate::proofs::Left::may_be))]
 fn note_undone<F: StageFolder>(
     alloc: Global,
     folder: &mut F,

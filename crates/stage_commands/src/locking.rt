@@ -3,7 +3,7 @@
 
 // No contract says what is printed or noted: bench/outside tests it.
 
-use crate::stop_texts::at_work;
+use crate::step_stops::at_work;
 use printing::TextBuffer;
 use stage_folder::{FolderFault, FolderNote, StageFolder, process_number};
 use stage_records::StageAction;

@@ -1,99 +1,31 @@
 //! `stage put`: a manifest from elsewhere, and the files that it names, replace those in place.
 
-ghost use Rattle.std.specs.Prelude.{◌≡◌, IfErr, IfOk, None, OnOk, false, option_copied, option_map};
-ghost use Rattle.std.specs.Prelude.{true};
+ghost use Rattle.std.specs.Prelude.{◌≡◌, IfErr, IfOk, OnOk, false, true};
 ghost use Rattle.stage_commands.specs.Actions.{IsUnchanged};
 ghost use Rattle.stage_commands.specs.Planned.{IsPutPlanned};
 ghost use Rattle.stage_commands.specs.Compared.{AreAllJudged};
-ghost use Rattle.stage_commands.specs.PutPlans.{IsLiftedBy, IsPresent, IsPutPlan, IsUnrefused};
+ghost use Rattle.stage_commands.specs.PutPlans.{IsPutPlan, IsUnrefused};
 ghost use Rattle.stage_commands.specs.Puts.{HasPut, PlansPut};
 ghost use Rattle.stage_commands.specs.Taken.{LeftBy};
-ghost use Rattle.stage_folder.specs.Folders.{GivesFile};
 
 use crate::comparison::compare;
 use crate::judged::judged_at;
 use crate::lifting::stop_if_lifted;
+use crate::present::{Present, lifted_by, present_manifest};
 use crate::put_files::files_to_put;
 use crate::steps::{number_in, owned_text, read_steps};
 use crate::taking::take_step;
 use crate::warned::push_warnings_of;
 use bounded_files::Disk;
-use load::{AppSources, CollectedManifest, JudgedManifest};
+use load::{CollectedManifest, JudgedManifest};
 use stage_folder::{StageFolder, steps_leave};
 use stage_records::{ReplacedFile, StagingStep, StepAction};
 use stage_servers::{Lines, StageCall, Stop, collected_at};
-use staging::lifted_app;
-use std::alloc::{AllocError, Global};
 use std::net::{Net, TcpStream};
 use std::time::Clock;
 
-/// The name of the manifest in place.
-const CURRENT: &str = "current.toml";
-
 /// What is said in place of a comparison.
 const NOTHING_IN_PLACE: &str = "no manifest is in place yet, so nothing is compared\n";
-
-// The manifest in place.
-#[derive(Drop)]
-enum Present {
-    /// There is none.
-    Nothing,
-    Manifest(CollectedManifest),
-    /// It can't be gathered.
-    Refused(Stop),
-}
-
-fn is_missing<F: StageFolder>(folder: &F, name: &str) -> bool
-    ensures { result ≡ true → GivesFile (F.files folder.now) name.now None }
-{
-    match folder.read(name) {
-        Ok(found) => is_nothing(found),
-        Err(_) => false,
-    }
-}
-
-fn is_nothing(found: Option<Vec<u8>>) -> bool
-    ensures { result ≡ true → option_map (λ bytes. bytes.items) found ≡ None }
-{
-    match found {
-        Some(_) => false,
-        None => true,
-    }
-}
-
-fn present_manifest<R, D, F>(call: &StageCall<'_, R, D>, folder: &F) -> Present
-where
-    R: AllocGlobal,
-    D: Disk,
-    F: StageFolder,
-    ensures { IsPresent (D.known call.now.disk.now) call.now.manifest.now (F.files folder.now)
-        result }
-{
-    if is_missing(folder, CURRENT) {
-        return Present::Nothing;
-    }
-    match collected_at(call.rt.alloc(), call.disk, call.manifest) {
-        Ok(collected) => Present::Manifest(collected),
-        Err(stop) => Present::Refused(stop),
-    }
-}
-
-// The app of a halt in force that the next manifest lifts, by the manifest in place.
-fn lifted_by<'a>(
-    alloc: Global,
-    steps: &'a [StagingStep],
-    present: &Present,
-    next: &[AppSources],
-) -> Result<Option<&'a str>, AllocError>
-    ensures { IfOk result (λ lifted.
-        IsLiftedBy steps.now present.now next.now (option_copied lifted)) }
-{
-    match present {
-        Present::Nothing => lifted_app(alloc, steps, &[], next),
-        Present::Manifest(present) => lifted_app(alloc, steps, &present.sources.apps, next),
-        Present::Refused(_) => Ok(None),
-    }
-}
 
 // Compares the next manifest with the one in place, which is judged first.
 fn compare_judged<R, D>(

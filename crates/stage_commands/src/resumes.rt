@@ -12,28 +12,20 @@ ghost use Rattle.stage_commands.specs.Taken.{LeftBy};
 ghost use Rattle.staging.specs.InForce as in_force;
 
 use crate::app_file::app_to_change;
-use crate::comparison::push_comparison;
-use crate::next_rows::compare_with;
-use crate::restored::NOT_COMPARED;
+use crate::resume_rows::{compare_resumed, compared_bytes};
 use crate::resumed_file::resumed_file_of;
-use crate::served_rows::judged_with_files;
 use crate::steps::{number_in, owned_text, read_steps};
 use crate::stop_texts::{NOT_HALTED, release_halted};
 use crate::taking::take_file;
 use bounded_files::Disk;
 use load::{AppSources, CollectedManifest};
-use manifest_diff::OpenedBoth;
 use stage_folder::StageFolder;
 use stage_records::{ReplacedFile, StagingStep, StepAction};
-use stage_servers::{
-    Lines, StageCall, Stop, app_named, collected_at, file_named, halted_release, refusal_of,
-    replaced_file,
-};
-use staging::{is_resumable, last_halt};
-use std::alloc::{AllocError, Global};
+use stage_servers::{Lines, StageCall, Stop, app_named, collected_at, halted_release, refusal_of};
+use staging::is_resumable;
+use std::alloc::Global;
 use std::net::{Net, TcpStream};
 use std::rt::Files;
-use std::slice;
 use std::time::Clock;
 
 // Says that no halt is to be lifted, or that only an earlier one of a release is in force.
@@ -84,93 +76,6 @@ where
     stop_unless_halted(call.rt.alloc(), steps, collected, appid)?;
     let file = resumed_file_of(call.rt.alloc(), folder, steps, app, buckets)?;
     Ok(file)
-}
-
-// ---- the comparisons
-
-// A file with these bytes.
-fn with_bytes(alloc: Global, name: &str, bytes: &[u8]) -> Result<ReplacedFile, AllocError> {
-    replaced_file(alloc, name, None, bytes)
-}
-
-// Prints what changes from before the halt, if the rule then has another number.
-#[tactic(auto, using(crate::proofs::Opening::both_kept))]
-fn compare_before<R, D>(
-    call: &StageCall<'_, R, D>,
-    was: &[u8],
-    file: &ReplacedFile,
-    lines: &mut Lines,
-) -> Result<(), Stop>
-where
-    R: AllocGlobal + Clock + Net<Stream = TcpStream>,
-    D: Disk,
-{
-    let Ok(before) = with_bytes(call.rt.alloc(), file.name.as_str(), was) else {
-        return Err(Stop::Memory);
-    };
-    let old = judged_with_files(call, slice::from_ref(&before));
-    drop(before);
-    let Some(old) = old else {
-        lines.stderr.push(NOT_COMPARED);
-        return Ok(());
-    };
-    let Some(new) = judged_with_files(call, slice::from_ref(file)) else {
-        drop(old);
-        lines.stderr.push(NOT_COMPARED);
-        return Ok(());
-    };
-    lines.text.push("from before the halt:\n");
-    let both = OpenedBoth { old, new };
-    let loses = push_comparison(call, &both, lines);
-    drop(both);
-    match loses {
-        Ok(_) => Ok(()),
-        Err(stop) => Err(stop),
-    }
-}
-
-// Prints what changes from what is in place, and from before the halt.
-fn compare_resumed<R, D>(
-    call: &StageCall<'_, R, D>,
-    collected: CollectedManifest,
-    was: Option<&[u8]>,
-    file: &Option<ReplacedFile>,
-    lines: &mut Lines,
-) -> Result<(), Stop>
-where
-    R: AllocGlobal + Clock + Net<Stream = TcpStream>,
-    D: Disk,
-    requires { IsCollected (D.known call.now.disk.now) call.now.manifest.now collected }
-    ensures { OnOk result (IfSome file.now
-        (IsAcceptedWith (D.known call.now.disk.now) call.now.manifest.now)) }
-{
-    if let Err(stop) = compare_with(call, collected, file, lines) {
-        return Err(stop);
-    }
-    match (was, file) {
-        (Some(was), Some(file)) => match compare_before(call, was, file, lines) {
-            Ok(()) => Ok(()),
-            Err(stop) => Err(stop),
-        },
-        _ => Ok(()),
-    }
-}
-
-// The bytes before the halt of a file, if they are to be compared.
-fn compared_bytes<'a>(
-    steps: &'a [StagingStep],
-    appid: &str,
-    file: &Option<ReplacedFile>,
-    buckets: Option<u32>,
-) -> Option<&'a [u8]> {
-    let _number = buckets?;
-    let Some(file) = file else {
-        return None;
-    };
-    let step = last_halt(steps, appid)?;
-    file_named(&step.files, file.name.as_str())?
-        .before
-        .as_deref()
 }
 
 // The file that resumes the app, once it is compared.

@@ -1,16 +1,12 @@
 //! The sentences that say why a stage stops, and what to do.
 
-// No contract says what they are: bench/outside tests them. Those after which something may have
-// changed don't say that nothing has.
-
-ghost use Rattle.stage_commands.specs.Taken.{MayChange};
+// No contract says what they are: bench/outside tests them.
 
 use load::{AppSources, LoadFault};
 use manifest_diff::DiffFault;
 use printing::TextBuffer;
 use rule_lang::RuleFault;
-use stage_folder::FolderFault;
-use stage_servers::{RECORDS, Stop, refusal, refusal_of};
+use stage_servers::{Stop, refusal, refusal_of};
 use staging::{RaiseFault, WithoutFault};
 use std::alloc::Global;
 
@@ -175,68 +171,4 @@ pub(crate) fn not_left_out(
         WithoutFault::NotFound => refusal_of(alloc, file, TOO_LONG),
         WithoutFault::Memory => Stop::Memory,
     }
-}
-
-// ---- the folder and its steps
-
-/// Another call is at work in a folder: that of this note, if it isn't empty.
-pub(crate) fn at_work(alloc: Global, folder: &str, holder: &str) -> Stop {
-    let mut text = TextBuffer::new(alloc);
-    text.push_printed("", folder, ": ");
-    text.push_value(&FolderFault::Locked);
-    if !holder.is_empty() {
-        text.push_printed(" (", holder, ")");
-    }
-    refusal(text)
-}
-
-// What happened, and what to do.
-fn failure(text: TextBuffer) -> Stop
-    ensures { MayChange result }
-{
-    match text.finish() {
-        Ok(text) => Stop::Failed(text),
-        Err(_) => Stop::Memory,
-    }
-}
-
-// A failure at a file: what happened to the step, and what to do.
-fn failure_at(alloc: Global, what: &str, name: &str, fault: FolderFault, advice: &str) -> Stop
-    ensures { MayChange result }
-{
-    let mut text = TextBuffer::new(alloc);
-    text.push("the step ");
-    text.push(what);
-    text.push_printed(" at ", name, ": ");
-    text.push_value(&fault);
-    text.push("; call stage back ");
-    text.push(advice);
-    failure(text)
-}
-
-/// A step stopped at a file.
-pub(crate) fn stopped_at(alloc: Global, name: &str, fault: FolderFault) -> Stop
-    ensures { MayChange result }
-{
-    failure_at(alloc, "stopped", name, fault, "to undo it")
-}
-
-/// Undoing a step stopped at a file.
-pub(crate) fn not_undone(alloc: Global, name: &str, fault: FolderFault) -> Stop
-    ensures { MayChange result }
-{
-    failure_at(alloc, "isn't undone", name, fault, "again")
-}
-
-/// The files of a step are restored, but its record can't say so.
-pub(crate) fn not_noted(alloc: Global, fault: FolderFault) -> Stop
-    ensures { MayChange result }
-{
-    let mut text = TextBuffer::new(alloc);
-    text.push("the files are restored, but ");
-    text.push(RECORDS);
-    text.push(" can't be written: ");
-    text.push_value(&fault);
-    text.push("; mend that, and call stage back again");
-    failure(text)
 }

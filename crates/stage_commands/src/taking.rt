@@ -3,19 +3,20 @@
 ghost use Rattle.std.specs.Prelude.{◌≡◌, [], IfErr, IfOk, IfSome, OnErr, OnOk, false, option_map};
 ghost use Rattle.std.specs.Prelude.{option_copied, option_to_list, true};
 ghost use Rattle.stage_commands.specs.Actions.{IsUnchanged};
-ghost use Rattle.stage_commands.specs.Taken.{IsNext, LeftBy, MayChange, Performs, Takes};
+ghost use Rattle.stage_commands.specs.Taken.{IsNext, LeftBy, MayChange, Performs, RecordLeftBy};
+ghost use Rattle.stage_commands.specs.Taken.{Takes};
 ghost use Rattle.stage_folder.specs.Folders.{IsFree};
-ghost use Rattle.stage_folder.specs.Recorded.{IsRecorded, MayBeRecorded};
+ghost use Rattle.stage_folder.specs.Recorded.{IsRecorded};
 ghost use Rattle.stage_folder.specs.Steps.{IsFoundBy, IsPartlyDone, done};
 ghost use Rattle.stage_folder.specs.Steps.{has_distinct_names};
 
 use crate::app_file::files_of;
+use crate::step_stops::{not_recorded, stopped_at};
 use crate::steps::{name_at, owned_some};
-use crate::stop_texts::stopped_at;
 use printing::TextBuffer;
 use stage_folder::{StageFolder, StepFault, perform, write_record};
 use stage_records::{ReplacedFile, StagingStep, StepAction};
-use stage_servers::{Lines, RECORDS, StageCall, Stop, in_folder};
+use stage_servers::{Lines, StageCall, Stop};
 use stage_text::now_of;
 use std::alloc::Global;
 use std::time::Clock;
@@ -29,6 +30,7 @@ fn push_files(text: &mut TextBuffer, verb: &str, files: &[ReplacedFile]) {
 }
 
 // Records a step that is about to be performed.
+#[tactic(auto, using(crate::proofs::Left::record_left))]
 fn record_step<F: StageFolder>(
     alloc: Global,
     folder: &mut F,
@@ -37,13 +39,13 @@ fn record_step<F: StageFolder>(
     ensures recorded { OnOk result
         (IsRecorded step.now (F.records folder.old) (F.records folder.new)) }
     ensures distinct { OnOk result (has_distinct_names step.now.files ≡ true) }
-    ensures failed { OnErr result
-        (MayBeRecorded step.now (F.records folder.old) (F.records folder.new)) }
+    ensures failed { IfErr result (λ stop.
+        RecordLeftBy stop step.now (F.records folder.old) (F.records folder.new)) }
     ensures files { F.files folder.new ≡ F.files folder.old }
 {
     match write_record(alloc, folder, step) {
         Ok(()) => Ok(()),
-        Err(fault) => Err(in_folder(alloc, RECORDS, fault)),
+        Err(fault) => Err(not_recorded(alloc, step.number, fault)),
     }
 }
 

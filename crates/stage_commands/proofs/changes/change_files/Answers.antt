@@ -1,5 +1,5 @@
 use Rattle.std.proofs.Common.{refl}
-use Rattle.stage_commands.proofs.actions.change_files.Goals as goal
+use Rattle.stage_commands.proofs.changes.change_files.Goals as goal
 
 pub returns-in-Halt-clause-done : goal.returns-in-Halt-clause-done
 returns-in-Halt-clause-done g c = rw c.in-Halt.is c.halt.ensures.done

@@ -1,0 +1,134 @@
+//! The sentences that say why a stage stops at its folder or at a step, and what to do.
+
+// No contract says what they are: bench/outside tests them. Those after which something may have
+// changed don't say that nothing has.
+
+ghost use Rattle.stage_commands.specs.Taken.{IsTrueAfter, MayChange};
+
+use printing::TextBuffer;
+use stage_folder::{FolderFault, RecordFault};
+use stage_servers::{RECORDS, Stop, in_folder, refusal};
+use std::alloc::Global;
+
+/// Another call is at work in a folder: that of this note, if it isn't empty.
+pub(crate) fn at_work(alloc: Global, folder: &str, holder: &str) -> Stop {
+    let mut text = TextBuffer::new(alloc);
+    text.push_printed("", folder, ": ");
+    text.push_value(&FolderFault::Locked);
+    if !holder.is_empty() {
+        text.push_printed(" (", holder, ")");
+    }
+    refusal(text)
+}
+
+/// The record of an undone step can't say so.
+const NOT_NOTED: &str = "the files are restored, but .stage can't be written: ";
+
+/// The record of an undone step says so, but isn't synced.
+const NOT_KEPT: &str = "the step is undone, but its record may not last: ";
+
+// What happened, and what to do.
+fn failure(text: TextBuffer) -> Stop
+    ensures { MayChange result }
+{
+    match text.finish() {
+        Ok(text) => Stop::Failed(text),
+        Err(_) => Stop::Memory,
+    }
+}
+
+// A failure at a file: what happened to the step, and what to do.
+fn failure_at(alloc: Global, what: &str, name: &str, fault: FolderFault, advice: &str) -> Stop
+    ensures { MayChange result }
+{
+    let mut text = TextBuffer::new(alloc);
+    text.push("the step ");
+    text.push(what);
+    text.push_printed(" at ", name, ": ");
+    text.push_value(&fault);
+    text.push("; call stage back ");
+    text.push(advice);
+    failure(text)
+}
+
+/// A step stopped at a file.
+pub(crate) fn stopped_at(alloc: Global, name: &str, fault: FolderFault) -> Stop
+    ensures { MayChange result }
+{
+    failure_at(alloc, "stopped", name, fault, "to undo it")
+}
+
+/// Undoing a step stopped at a file.
+pub(crate) fn not_undone(alloc: Global, name: &str, fault: FolderFault) -> Stop
+    ensures { MayChange result }
+{
+    failure_at(alloc, "isn't undone", name, fault, "again")
+}
+
+// ---- records
+
+// The record of a step can't be written: the fault, and what is known of the record.
+fn failure_at_record(
+    alloc: Global,
+    fault: FolderFault,
+    known: &str,
+    number: u32,
+    advice: &str,
+) -> Stop
+    ensures { MayChange result }
+{
+    let mut text = TextBuffer::new(alloc);
+    text.push_all(&[RECORDS, ": "]);
+    text.push_value(&fault);
+    text.push(known);
+    text.push_number(" the record of step ", number as u64, advice);
+    failure(text)
+}
+
+/// A new step isn't recorded: nothing has changed, or at most its record was made.
+pub(crate) fn not_recorded(alloc: Global, number: u32, fault: RecordFault) -> Stop
+    ensures { IsTrueAfter fault result }
+{
+    match fault {
+        RecordFault::NotMade(fault) => in_folder(alloc, RECORDS, fault),
+        RecordFault::NotKept(fault) => {
+            let advice = " was made: call stage back to undo it";
+            failure_at_record(alloc, fault, "; only", number, advice)
+        }
+        RecordFault::Unknown(fault) => {
+            let advice = " was made: call stage back if stage status has it";
+            failure_at_record(alloc, fault, "; at most", number, advice)
+        }
+    }
+}
+
+// A step is to be undone: what is known of it, the fault at its record, and what to do.
+fn failure_after_undoing(alloc: Global, known: &str, fault: FolderFault, advice: &str) -> Stop
+    ensures { MayChange result }
+{
+    let mut text = TextBuffer::new(alloc);
+    text.push(known);
+    text.push_value(&fault);
+    text.push(advice);
+    failure(text)
+}
+
+/// The files of a step are restored, but its record can't say so, or maybe not for long.
+pub(crate) fn not_noted(alloc: Global, fault: RecordFault) -> Stop
+    ensures { MayChange result }
+{
+    match fault {
+        RecordFault::NotMade(fault) => {
+            let advice = "; mend that, and call stage back again";
+            failure_after_undoing(alloc, NOT_NOTED, fault, advice)
+        }
+        RecordFault::NotKept(fault) => {
+            let advice = "; look with stage status, and call rollout load";
+            failure_after_undoing(alloc, NOT_KEPT, fault, advice)
+        }
+        RecordFault::Unknown(fault) => {
+            let advice = "; call stage back again, unless stage status has the step as undone";
+            failure_after_undoing(alloc, NOT_NOTED, fault, advice)
+        }
+    }
+}
