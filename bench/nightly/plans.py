@@ -100,6 +100,10 @@ def drifts(night, call, plan):
             plan.perhaps.add("drift")
         elif call.word == "put" and load_of(left_by_steps(night)) == server.load:
             plan.perhaps.add("drift")
+        elif (call.word == "back" and load_of(left_by_steps(night)) == server.load
+              and not is_edited(night, call)):
+            # The files of the step are compared when it is undone.
+            continue
         else:
             plan.stops.add("drift")
 

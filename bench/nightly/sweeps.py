@@ -50,6 +50,8 @@ SWEEPS = {
     "back from a halt": ([call_of("halt", "editor")], call_of("back")),
     "back from a halt, anyway": ([call_of("halt", "agent")], call_of("back", anyway=True)),
     "back from a put": ([put_of], call_of("back", anyway=True)),
+    "back from a lower share": (
+        [call_of("raise", "tool", "1%", anyway=True)], call_of("back")),
 }
 
 
@@ -125,17 +127,23 @@ def sweep(night, title):
                 ])
                 settle(night, call, said, said[0] not in (0, 1))
                 night.compare()
-                back_again(night, it)
+                back_again(night, call, it)
                 yield f"{title}, {name} {number}, {what}", list(night.complaints), said
         it.again()
 
 
-def back_again(night, before):
-    """A step that was stopped can be undone, and its files are as before."""
-    if not night.steps or not night.steps[-1].is_partial or night.complaints:
+def back_again(night, call, before):
+    """A step that was stopped can be undone, and its files are as before. A call of `back` that was
+    stopped can be made again."""
+    left = [it for it in night.steps if not it.is_undone]
+    if night.complaints or not left or call.word != "back" and not night.steps[-1].is_partial:
         return
-    call = Call("back", anyway=True, servers=list(night.servers))
-    for text in expect(night, call, night.call(call)):
+    step, again = left[-1], call
+    if call.word != "back":
+        again = Call("back", anyway=True, servers=list(night.servers))
+    said = night.call(again)
+    for text in expect(night, again, said):
         night.wrong(f"back after it: {text}")
-    if night.found() != before.saved[0]:
+    files = before.saved[0] | (step.before if step.is_undone else {})
+    if night.found() != {name: text for name, text in files.items() if text is not None}:
         night.wrong("back after it: the files aren't as before")

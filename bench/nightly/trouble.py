@@ -63,8 +63,9 @@ def settle_steps(night, plan, changed, expected, errors):
     if plan.step:
         plan.step.is_partial = len(changed) != len(expected)
         if plan.step.spelt() in records:
-            # Also where no file has changed, as SPECIFICATION says: `back` undoes that step first.
             night.steps.append(plan.step)
+            if UNCHANGED in errors or KEPT in errors:
+                night.wrong("untrue: nothing has changed, but the step is recorded")
         elif changed:
             night.wrong(f"no record of {changed}: {records}, not {plan.step.spelt()}")
     if plan.undone:
