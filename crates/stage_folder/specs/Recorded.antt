@@ -52,7 +52,7 @@ HasRecord known number bytes has =
 abbrev pub MayBeRecorded : StagingStep → (old new : KnownRecords) → Type 0
 MayBeRecorded step old new = (new ≡ old) ⊎ IsRecorded step old new
 
--- what a record that couldn't be written leaves
+-- the records after a write that failed
 abbrev pub IsLeftBy : RecordFault → StagingStep → (old new : KnownRecords) → Type 0
 IsLeftBy (fault.NotMade why) step old new = new ≡ old
 IsLeftBy (fault.NotKept why) step old new = IsRecorded step old new

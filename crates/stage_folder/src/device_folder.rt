@@ -31,7 +31,7 @@ pub struct DeviceFolder<'a, R> {
 }
 
 impl<'a, R: Files<File = File> + AllocGlobal> DeviceFolder<'a, R> {
-    /// The folder at a path. Returns `NoFolder` if there is none, and `System` if it can't be entered.
+    /// The folder at a path. Returns `NoFolder` if there is none.
     // open: what a device contains: `bench/outside`.
     pub fn open(rt: &'a R, path: &str) -> Result<DeviceFolder<'a, R>, FolderFault> {
         let whole = match Path::new(path).canonicalize(rt) {

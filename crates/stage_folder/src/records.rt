@@ -128,8 +128,9 @@ fn put_step<F: StageFolder>(
 }
 
 /// Records a step whole: makes its record, or replaces it. This comes before the step's first file
-/// is replaced, and again after the step is undone. Returns `NotRecorded` if two of its files have
-/// one name, or if the record doesn't read back as this step.
+/// is replaced, and again after the step is undone. After an error the record is read back, so that
+/// the fault says whether it is there. Returns `NotRecorded` if two of its files have one name, or
+/// if the record wouldn't spell this step.
 // open: which `FolderFault` is returned.
 pub fn write_record<F: StageFolder>(
     alloc: Global,
