@@ -1,4 +1,4 @@
-//! A halt at the servers, which needs no file: each is sent `halt APPID` before the folder is opened.
+//! A halt at the servers, which needs no file: each gets `halt APPID` before the folder is opened.
 
 // No contract says what a server does, or what is printed: bench/outside tests it.
 
