@@ -6,7 +6,7 @@ use Rattle.std.specs.Prelude.{option_copied}
 use Rattle.stage_records.specs.Steps.{ReplacedFile, StagingStep, last_step}
 use Rattle.stage_records.specs.declared.step.StepAction.{StepAction}
 use Rattle.stage_folder.specs.Folders.{IsFree, KnownFolder, KnownRecords}
-use Rattle.stage_folder.specs.Recorded.{AreRecorded, IsLeftBy, IsRecorded, MayBeRecorded}
+use Rattle.stage_folder.specs.Recorded.{AreRecorded, AreRecordsAfter, IsRecorded, MayBeRecorded}
 use Rattle.stage_folder.specs.Steps.{IsFoundBy, IsPartlyDone, IsPartlyUndone, done}
 use Rattle.stage_folder.specs.Steps.{has_distinct_names, undone}
 use Rattle.stage_folder.specs.declared.folder_fault.RecordFault.{RecordFault}
@@ -21,10 +21,6 @@ use Rattle.stage_commands.specs.Taken.{Performs, Takes, unchanged, partly_done, 
 use Rattle.stage_servers.specs.declared.options.StageOptions.{StageOptions}
 use Rattle.stage_servers.specs.declared.outcome.Stop.{Stop}
 use Rattle.stage_servers.specs.declared.outcome.Stop.TheVariants as stop
-
-pub all_read : (records : KnownRecords) (recorded : RecordedSteps) → AreRecorded records recorded
-    → recorded.unread.items ≡ [] → AreAllRead records recorded
-all_read records recorded are none = record { are = are; all_read = none }
 
 same : (known : KnownFolder) → known ≡ option_map (λ folder. folder) known
 same None = refl
@@ -79,7 +75,7 @@ not_recorded stop.Memory step old_records new_records old new next left e =
     unchanged (adds_one step old_records new_records old next left) e
 
 pub may_be : (why : RecordFault) (step : StagingStep) (old new : KnownRecords)
-    → IsLeftBy why step old new → MayBeRecorded step old new
+    → AreRecordsAfter why step old new → MayBeRecorded step old new
 may_be (fault.NotMade of) step old new left = inl left
 may_be (fault.NotKept of) step old new left = inr left
 may_be (fault.Unknown of) step old new left = left
@@ -97,7 +93,7 @@ as_before (stop.Failed reason) step old new same = inl same
 as_before stop.Memory step old new same = inl same
 
 pub record_left : (said : Stop) (why : RecordFault) (step : StagingStep) (old new : KnownRecords)
-    → IsTrueAfter why said → IsLeftBy why step old new → RecordLeftBy said step old new
+    → IsTrueAfter why said → AreRecordsAfter why step old new → RecordLeftBy said step old new
 record_left said (fault.NotMade of) step old new is left = as_before said step old new left
 record_left said (fault.NotKept of) step old new is left =
     not_written said step old new is (inr left)

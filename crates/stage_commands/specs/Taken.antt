@@ -10,6 +10,7 @@ use Rattle.stage_folder.specs.declared.folder_fault.RecordFault.TheVariants as f
 use Rattle.stage_folder.specs.declared.records.RecordedSteps.{RecordedSteps}
 use Rattle.stage_records.specs.Steps.{ReplacedFile, StagingStep, last_step}
 use Rattle.stage_records.specs.declared.step.StepAction.{StepAction}
+use Rattle.stage_servers.specs.Stops.{SaysNoChange}
 use Rattle.stage_servers.specs.Whole.{AreAllRead}
 use Rattle.stage_servers.specs.declared.options.StageOptions.{StageOptions}
 use Rattle.stage_servers.specs.declared.outcome.Stop.{Stop}
@@ -95,8 +96,8 @@ IsLeftUndone step old_records new_records old new =
     ⊎ (IsRecorded (as_undone step) old_records new_records
     × (new ≡ option_map (undone step.files) old))
 
--- no file has changed; or a step is added, and its files are replaced; or those of the last step
--- that isn't undone are restored; each in part or all
+-- no file has changed, but a step may be added; or a step is added, and its files are replaced; or
+-- those of the last step that isn't undone are restored; each in part or all
 pub data IsLeft (old_records new_records : KnownRecords) (old new : KnownFolder) : Type 0 where
   unchanged : AddAtMostOne old_records new_records old → new ≡ old
       → IsLeft old_records new_records old new
@@ -129,9 +130,9 @@ LeftByUndo other step old_records new_records old new =
 
 -- ---- a record that can't be written
 
--- a stop says that nothing has changed only if the records are as before
+-- a stop says that nothing has changed if it is known that the records are as before, and only then
 abbrev pub IsTrueAfter : RecordFault → Stop → Type 0
-IsTrueAfter (fault.NotMade why) stop = Unit {0}
+IsTrueAfter (fault.NotMade why) stop = SaysNoChange stop
 IsTrueAfter other stop = MayChange stop
 
 -- the records after a stop at a step's record

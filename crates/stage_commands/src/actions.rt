@@ -149,8 +149,8 @@ where
 /// Does an action in a folder that is opened and locked, and has the servers load its manifest,
 /// whose path is given. The outcome says what is done, or why not and what to do.
 // open: whether an allocation fails, its one error; what is printed, what a server does, and which
-// stops there are: bench/outside. After a stop some files of a recorded step may be replaced, or
-// restored; `status` names them, and `back` restores them.
+// stops there are: bench/outside. After a stop a step may be recorded, and some of its files
+// replaced, or restored; `status` names those that aren't as it left them, `back` restores all.
 pub fn stage_in<R, D, F>(
     rt: &R,
     disk: &D,

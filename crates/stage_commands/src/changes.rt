@@ -140,7 +140,8 @@ where
     match change_files(&call, folder, action, lines) {
         Ok(()) => {
             let lifted = apps_lifted(&call, halted);
-            Ok(load_all(&call, &*folder, action, &lifted, lines))
+            let are_loaded = load_all(&call, &*folder, action, &lifted, lines);
+            Ok(are_loaded && !lines.is_amiss())
         }
         Err(stop) => Err(stop),
     }

@@ -47,6 +47,7 @@ mod step_stops;
 mod steps;
 mod stop_texts;
 mod taking;
+mod undoing;
 mod warned;
 
 pub use actions::stage_in;

@@ -13,14 +13,14 @@ use crate::judged::judged_at;
 use crate::lifting::stop_if_lifted;
 use crate::present::{Present, lifted_by, present_manifest};
 use crate::put_files::files_to_put;
-use crate::steps::{number_in, owned_text, read_steps};
+use crate::steps::{number_in, owned_text};
 use crate::taking::take_step;
 use crate::warned::push_warnings_of;
 use bounded_files::Disk;
 use load::{CollectedManifest, JudgedManifest};
 use stage_folder::{StageFolder, steps_leave};
 use stage_records::{ReplacedFile, StagingStep, StepAction};
-use stage_servers::{Lines, StageCall, Stop, collected_at};
+use stage_servers::{Lines, StageCall, Stop, collected_at, read_steps};
 use std::net::{Net, TcpStream};
 use std::time::Clock;
 

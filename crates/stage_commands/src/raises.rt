@@ -15,7 +15,7 @@ ghost use Rattle.stage_folder.specs.Folders.{GivesFile};
 
 use crate::app_file::{app_to_change, replacement};
 use crate::next_rows::compare_with;
-use crate::steps::{number_in, owned_text, read_steps};
+use crate::steps::{number_in, owned_text};
 use crate::stop_texts::{HAS_PROGRAM, IS_HALTED, NO_TEXT, not_raised};
 use crate::taking::take_file;
 use bounded_files::Disk;
@@ -23,7 +23,7 @@ use load::{AppSources, CollectedManifest};
 use manifest::ProgramSource;
 use stage_folder::StageFolder;
 use stage_records::{ReplacedFile, StepAction};
-use stage_servers::{Lines, StageCall, Stop, collected_at, in_folder, refusal_of};
+use stage_servers::{Lines, StageCall, Stop, collected_at, in_folder, read_steps, refusal_of};
 use staging::{halting_file, raised_rule};
 use std::alloc::Global;
 use std::net::{Net, TcpStream};

@@ -14,14 +14,16 @@ ghost use Rattle.staging.specs.InForce as in_force;
 use crate::app_file::app_to_change;
 use crate::resume_rows::{compare_resumed, compared_bytes};
 use crate::resumed_file::resumed_file_of;
-use crate::steps::{number_in, owned_text, read_steps};
+use crate::steps::{number_in, owned_text};
 use crate::stop_texts::{NOT_HALTED, release_halted};
 use crate::taking::take_file;
 use bounded_files::Disk;
 use load::{AppSources, CollectedManifest};
 use stage_folder::StageFolder;
 use stage_records::{ReplacedFile, StagingStep, StepAction};
-use stage_servers::{Lines, StageCall, Stop, app_named, collected_at, halted_release, refusal_of};
+use stage_servers::{
+    Lines, StageCall, Stop, app_named, collected_at, halted_release, read_steps, refusal_of,
+};
 use staging::is_resumable;
 use std::alloc::Global;
 use std::net::{Net, TcpStream};

@@ -21,12 +21,6 @@ pub(crate) fn at_work(alloc: Global, folder: &str, holder: &str) -> Stop {
     refusal(text)
 }
 
-/// The record of an undone step can't say so.
-const NOT_NOTED: &str = "the files are restored, but .stage can't be written: ";
-
-/// The record of an undone step says so, but isn't synced.
-const NOT_KEPT: &str = "the step is undone, but its record may not last: ";
-
 // What happened, and what to do.
 fn failure(text: TextBuffer) -> Stop
     ensures { MayChange result }
@@ -67,21 +61,19 @@ pub(crate) fn not_undone(alloc: Global, name: &str, fault: FolderFault) -> Stop
 
 // ---- records
 
-// The record of a step can't be written: the fault, and what is known of the record.
-fn failure_at_record(
-    alloc: Global,
-    fault: FolderFault,
-    known: &str,
-    number: u32,
-    advice: &str,
-) -> Stop
+/// What to do if a new step may be recorded, though nothing else is done of it.
+const IF_RECORDED: &str = " was made: call stage back if stage status has it as stopped";
+
+// The record of a new step can't be written, but is there, or may be.
+fn failure_at_record(alloc: Global, fault: FolderFault, known: &str, number: u32) -> Stop
     ensures { MayChange result }
 {
     let mut text = TextBuffer::new(alloc);
     text.push_all(&[RECORDS, ": "]);
     text.push_value(&fault);
+    text.push("; no file has changed, but ");
     text.push(known);
-    text.push_number(" the record of step ", number as u64, advice);
+    text.push_number("the record of step ", number as u64, IF_RECORDED);
     failure(text)
 }
 
@@ -91,18 +83,12 @@ pub(crate) fn not_recorded(alloc: Global, number: u32, fault: RecordFault) -> St
 {
     match fault {
         RecordFault::NotMade(fault) => in_folder(alloc, RECORDS, fault),
-        RecordFault::NotKept(fault) => {
-            let advice = " was made: call stage back to undo it";
-            failure_at_record(alloc, fault, "; only", number, advice)
-        }
-        RecordFault::Unknown(fault) => {
-            let advice = " was made: call stage back if stage status has it";
-            failure_at_record(alloc, fault, "; at most", number, advice)
-        }
+        RecordFault::NotKept(fault) => failure_at_record(alloc, fault, "", number),
+        RecordFault::Unknown(fault) => failure_at_record(alloc, fault, "maybe ", number),
     }
 }
 
-// A step is to be undone: what is known of it, the fault at its record, and what to do.
+// The files of a step are restored: what is known of its record, the fault there, and what to do.
 fn failure_after_undoing(alloc: Global, known: &str, fault: FolderFault, advice: &str) -> Stop
     ensures { MayChange result }
 {
@@ -113,22 +99,26 @@ fn failure_after_undoing(alloc: Global, known: &str, fault: FolderFault, advice:
     failure(text)
 }
 
-/// The files of a step are restored, but its record can't say so, or maybe not for long.
-pub(crate) fn not_noted(alloc: Global, fault: RecordFault) -> Stop
+/// The files of a step are restored, but its record can't say so.
+pub(crate) fn not_noted(alloc: Global, fault: FolderFault) -> Stop
     ensures { MayChange result }
 {
-    match fault {
-        RecordFault::NotMade(fault) => {
-            let advice = "; mend that, and call stage back again";
-            failure_after_undoing(alloc, NOT_NOTED, fault, advice)
-        }
-        RecordFault::NotKept(fault) => {
-            let advice = "; look with stage status, and call rollout load";
-            failure_after_undoing(alloc, NOT_KEPT, fault, advice)
-        }
-        RecordFault::Unknown(fault) => {
-            let advice = "; call stage back again, unless stage status has the step as undone";
-            failure_after_undoing(alloc, NOT_NOTED, fault, advice)
-        }
-    }
+    let known = "the files are restored, but .stage can't be written: ";
+    let advice = "; mend that, and call stage back again";
+    failure_after_undoing(alloc, known, fault, advice)
+}
+
+/// The files of a step are restored; whether its record says so isn't known.
+pub(crate) fn maybe_noted(alloc: Global, fault: FolderFault) -> Stop
+    ensures { MayChange result }
+{
+    let known = "the files are restored, but maybe .stage doesn't say so: ";
+    let advice = "; call stage back again, unless stage status has the step as undone";
+    failure_after_undoing(alloc, known, fault, advice)
+}
+
+/// A step is undone, but its record may not survive a crash.
+pub(crate) fn not_kept(alloc: Global, fault: FolderFault) -> Stop {
+    let known = "the step is undone, but its record may not last: ";
+    failure_after_undoing(alloc, known, fault, "")
 }

@@ -1,12 +1,11 @@
-//! The recorded steps, and the number of the next one.
+//! The number of the next step, and what a step owns.
 
-ghost use Rattle.std.specs.Prelude.{◌≡◌, [], IfOk, None, option_copied};
-ghost use Rattle.stage_servers.specs.Whole.{AreAllRead};
+ghost use Rattle.std.specs.Prelude.{◌≡◌, IfOk, option_copied};
 ghost use Rattle.stage_folder.specs.Folders.{IsFree};
 
 use crate::stop_texts::NO_NUMBER;
 use attrs::Text;
-use stage_folder::{FolderFault, RecordedSteps, StageFolder, next_number, recorded_steps};
+use stage_folder::{StageFolder, next_number};
 use stage_records::ReplacedFile;
 use stage_servers::{RECORDS, Stop, in_folder, refused};
 use std::alloc::{AllocError, Global};
@@ -28,33 +27,6 @@ pub(crate) fn owned_some(alloc: Global, text: Option<&str>) -> Result<Option<Tex
             Ok(Some(owned))
         }
         None => Ok(None),
-    }
-}
-
-/// The recorded steps, in the order of their numbers. A record that isn't a step's is a refusal.
-#[tactic(auto, using(crate::proofs::Left::all_read))]
-pub(crate) fn read_steps<F: StageFolder>(alloc: Global, folder: &F) -> Result<RecordedSteps, Stop>
-    ensures { IfOk result (AreAllRead (F.records folder.now)) }
-{
-    let recorded = match recorded_steps(alloc, folder) {
-        Ok(recorded) => recorded,
-        Err(fault) => return Err(in_folder(alloc, RECORDS, fault)),
-    };
-    match first_of(&recorded.unread) {
-        None => Ok(recorded),
-        Some(number) => {
-            drop(recorded);
-            Err(in_folder(alloc, RECORDS, FolderFault::NoRecord(number)))
-        }
-    }
-}
-
-fn first_of(numbers: &[u32]) -> Option<u32>
-    ensures { result ≡ None → numbers.now ≡ [] }
-{
-    match numbers {
-        [] => None,
-        [number, ..] => Some(*number),
     }
 }
 

@@ -53,7 +53,7 @@ abbrev pub MayBeRecorded : StagingStep → (old new : KnownRecords) → Type 0
 MayBeRecorded step old new = (new ≡ old) ⊎ IsRecorded step old new
 
 -- the records after a write that failed
-abbrev pub IsLeftBy : RecordFault → StagingStep → (old new : KnownRecords) → Type 0
-IsLeftBy (fault.NotMade why) step old new = new ≡ old
-IsLeftBy (fault.NotKept why) step old new = IsRecorded step old new
-IsLeftBy (fault.Unknown why) step old new = MayBeRecorded step old new
+abbrev pub AreRecordsAfter : RecordFault → StagingStep → (old new : KnownRecords) → Type 0
+AreRecordsAfter (fault.NotMade why) step old new = new ≡ old
+AreRecordsAfter (fault.NotKept why) step old new = IsRecorded step old new
+AreRecordsAfter (fault.Unknown why) step old new = MayBeRecorded step old new

@@ -12,7 +12,7 @@ use std::io::{Error, ErrorKind};
 /// file, which says what to do.
 #[derive(Clone, Copy, PartialEq, Eq)]
 pub enum FolderFault {
-    /// The folder is missing.
+    /// It is missing, or no folder.
     NoFolder,
     /// Another process is at work in it.
     Locked,
@@ -28,7 +28,7 @@ pub enum FolderFault {
     Link,
     /// It isn't a regular file: a folder, for instance, or a FIFO.
     NotRegular,
-    /// It has more than 16 MiB.
+    /// It is longer than its kind may be: a file 16 MiB, a record 256 MiB, a note 1 MiB.
     TooLong,
     /// The system's reason.
     System(ErrorKind),
@@ -53,14 +53,14 @@ pub enum UndoFault {
     Stopped(StepFault),
 }
 
-/// Why a step isn't recorded, and what its record is then.
+/// Why recording a step failed, and what its record is then.
 #[derive(Clone, Copy, PartialEq, Eq)]
 pub enum RecordFault {
     /// The records are as before.
     NotMade(FolderFault),
     /// The step is recorded, but its record may not survive a crash.
     NotKept(FolderFault),
-    /// One of both: the record can't be read back.
+    /// One of both: the record can't be read again.
     Unknown(FolderFault),
 }
 
@@ -128,7 +128,7 @@ fn sentence(fault: FolderFault) -> &'static str {
         }
         FolderFault::Link => "there is a symbolic link on the way: put the file itself there",
         FolderFault::NotRegular => "it is no regular file: put one there, or give another name",
-        FolderFault::TooLong => "it has more than 16 MiB: make it shorter",
+        FolderFault::TooLong => "it is too long: make it shorter",
         FolderFault::Memory => "out of memory: try again",
         FolderFault::NoRecord(_) => NO_RECORD,
         FolderFault::System(_) => "",

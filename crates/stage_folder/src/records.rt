@@ -4,7 +4,7 @@ ghost use Rattle.std.specs.Prelude.{◌≡◌, ◌==◌, IfErr, IfOk, IsPermutat
 ghost use Rattle.std.specs.Prelude.{true};
 ghost use Rattle.std.specs.Ordering.{nat_cmp};
 ghost use Rattle.stage_folder.specs.Steps.{has_distinct_names};
-ghost use Rattle.stage_folder.specs.Recorded.{AreRead, AreRecorded, HasRecord, IsLeftBy};
+ghost use Rattle.stage_folder.specs.Recorded.{AreRead, AreRecorded, HasRecord, AreRecordsAfter};
 ghost use Rattle.stage_folder.specs.Recorded.{IsRecorded, IsStepAt};
 ghost use Rattle.stage_records.specs.Records.{step_in};
 
@@ -104,7 +104,7 @@ fn has_record<F: StageFolder>(folder: &F, number: u32, bytes: &[u8]) -> Result<b
     }
 }
 
-// Makes or replaces a step's record by these bytes. After an error the record is read back.
+// Makes or replaces a step's record by these bytes. After an error the record is read again.
 fn put_step<F: StageFolder>(
     folder: &mut F,
     step: &StagingStep,
@@ -114,7 +114,7 @@ fn put_step<F: StageFolder>(
     ensures recorded { OnOk result
         (IsRecorded step.now (F.records folder.old) (F.records folder.new)) }
     ensures failed { IfErr result (λ fault.
-        IsLeftBy fault step.now (F.records folder.old) (F.records folder.new)) }
+        AreRecordsAfter fault step.now (F.records folder.old) (F.records folder.new)) }
     ensures files { F.files folder.new ≡ F.files folder.old }
 {
     let Err(fault) = folder.put_record(step.number, bytes) else {
@@ -128,9 +128,9 @@ fn put_step<F: StageFolder>(
 }
 
 /// Records a step whole: makes its record, or replaces it. This comes before the step's first file
-/// is replaced, and again after the step is undone. After an error the record is read back, so that
-/// the fault says whether it is there. Returns `NotRecorded` if two of its files have one name, or
-/// if the record wouldn't spell this step.
+/// is replaced, and again after the step is undone. After an error the record is read again, so
+/// that the fault says whether it is there, unless reading it fails. Returns `NotRecorded` if two
+/// of its files have one name, or if the record wouldn't spell this step.
 // open: which `FolderFault` is returned.
 pub fn write_record<F: StageFolder>(
     alloc: Global,
@@ -141,7 +141,7 @@ pub fn write_record<F: StageFolder>(
         (IsRecorded step.now (F.records folder.old) (F.records folder.new)) }
     ensures distinct { OnOk result (has_distinct_names step.now.files ≡ true) }
     ensures failed { IfErr result (λ fault.
-        IsLeftBy fault step.now (F.records folder.old) (F.records folder.new)) }
+        AreRecordsAfter fault step.now (F.records folder.old) (F.records folder.new)) }
     ensures files { F.files folder.new ≡ F.files folder.old }
 {
     if !has_distinct_names(&step.files) {

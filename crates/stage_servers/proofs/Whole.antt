@@ -10,7 +10,7 @@ use Rattle.stage_records.specs.FileStates.{state_of}
 use Rattle.stage_records.specs.Steps.{ReplacedFile, StagingStep, last_step}
 use Rattle.stage_records.specs.declared.file_state.FileState.{FileState}
 use Rattle.stage_records.specs.declared.file_state.FileState.TheVariants.{After}
-use Rattle.stage_servers.specs.Whole.{AreAsLeft, IsAsLeft, IsWhole}
+use Rattle.stage_servers.specs.Whole.{AreAllRead, AreAsLeft, IsAsLeft, IsWhole}
 
 pub as_left : (folder : KnownFolder) (file : ReplacedFile) (found : Option (List ℕ))
     (state : FileState) → GivesFile folder file.name found → state ≡ state_of file found
@@ -36,6 +36,10 @@ last_left folder steps step is are =
 pub none_left : (folder : KnownFolder) (steps : List StagingStep) → None ≡ last_step steps
     → AreAsLeft folder steps
 none_left folder steps is = subst (λ o. IfSome o (λ s. All (IsAsLeft folder) s.files)) is tt
+
+pub all_read : (records : KnownRecords) (recorded : RecordedSteps) → AreRecorded records recorded
+    → recorded.unread.items ≡ [] → AreAllRead records recorded
+all_read records recorded are none = record { are = are; all_read = none }
 
 pub whole : (records : KnownRecords) (folder : KnownFolder) (recorded : RecordedSteps)
     → AreRecorded records recorded → recorded.unread.items ≡ []

@@ -2,5 +2,6 @@ pub mod Apps
 pub mod Drift
 pub mod Replaced
 pub mod Served
+pub mod Stops
 pub mod Unedited
 pub mod Whole

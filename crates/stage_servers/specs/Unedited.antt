@@ -3,13 +3,12 @@ use Rattle.std.specs.Prelude.{◌≡◌, ◌==◌, ◌&&◌, ◌||◌, ℕ, List
 use Rattle.std.specs.Prelude.{is_some, not}
 use Rattle.std.specs.List.{list_all, list_any}
 use Rattle.stage_folder.specs.Folders.{KnownFolder, KnownRecords}
-use Rattle.stage_folder.specs.Recorded.{AreRecorded}
 use Rattle.stage_folder.specs.declared.records.RecordedSteps.{RecordedSteps}
 use Rattle.stage_records.specs.Steps.{ReplacedFile, StagingStep, last_step}
 use Rattle.stage_records.specs.declared.action.StageAction.{StageAction}
 use Rattle.stage_servers.specs.Drift.{is_halt, is_put}
 use Rattle.stage_servers.specs.Replaced.{file_named}
-use Rattle.stage_servers.specs.Whole.{IsAsLeft, only_looks}
+use Rattle.stage_servers.specs.Whole.{AreAllRead, IsAsLeft, only_looks}
 use Rattle.stage_servers.specs.declared.options.StageOptions.{StageOptions}
 use Rattle.stage_servers.specs.declared.serves.Serves.{Serves}
 use Rattle.stage_servers.specs.declared.serves.Serves.TheVariants as serves
@@ -41,10 +40,10 @@ AreUnedited is_back folder [] = Unit {0}
 AreUnedited is_back folder (step ∷ later) =
     AreFilesUnedited is_back folder step later × AreUnedited is_back folder later
 
--- the same of the recorded steps that could be read
+-- the same of the recorded steps, of which each record is read
 abbrev pub IsUnedited : (is_back : Bool) → KnownRecords → KnownFolder → Type 0
 IsUnedited is_back records folder = (recorded : RecordedSteps)
-    × AreRecorded records recorded × AreUnedited is_back folder recorded.steps.items
+    × AreAllRead records recorded × AreUnedited is_back folder recorded.steps.items
 
 -- ---- when an action looks at the files
 
@@ -58,13 +57,13 @@ abbrev pub serves_last : Serves → Bool
 serves_last (serves.Step number later files left) = later == 0
 serves_last other = false
 
--- no server says what it serves; or one serves what the last step left, and the action isn't a put,
--- whose rows begin with what is served
+-- an action looks at the files if no server says what it serves; or if one serves what the last
+-- step left, and the action isn't a put, whose rows begin with what is served
 abbrev pub depends_on_files : StageAction → List Surveyed → Bool
 depends_on_files action servers = list_all (λ server. is_unknown server.serves) servers
     || (not (is_put action) && list_any (λ server. serves_last server.serves) servers)
 
--- then an action that changes files, but no halt, looks at them, unless `--anyway` continues it
+-- only one that changes files, but isn't a halt, does so; and `--anyway` continues it
 abbrev pub compares_files : StageOptions → StageAction → List Surveyed → Bool
 compares_files options action servers =
     not (only_looks action || is_halt action || options.anyway) && depends_on_files action servers

@@ -145,9 +145,10 @@ where
     Ok(())
 }
 
-/// Stops before anything is changed, if a server doesn't serve what is in place: unless `--anyway`
-/// is given, or `--other-server` if it has another app. A halt doesn't stop. Nor does undoing a
-/// step that the server doesn't serve yet, as one that stopped in its middle.
+/// Stops before anything is changed, if a server serves neither what is in place nor what the last
+/// step left: unless `--anyway` is given, or `--other-server` if it has another app. A halt doesn't
+/// stop. Nor does undoing a step that the server doesn't serve yet, as one that stopped in its
+/// middle.
 pub fn stop_if_drifted<R, D>(
     call: &StageCall<'_, R, D>,
     servers: &[Surveyed],

@@ -34,16 +34,13 @@ pub(crate) fn serving_last(servers: &[Surveyed]) -> Option<Serving> {
     None
 }
 
-// A file isn't as a step left it.
-fn not_as_left(alloc: Global, name: &str, number: u32) -> Stop {
+// A file isn't as a step left it, and what to do.
+fn not_as_left(alloc: Global, name: &str, number: u32, advice: &str) -> Stop {
     let mut text = TextBuffer::new(alloc);
     text.push_printed("", name, " isn't as step ");
-    text.push_number(
-        "",
-        number as u64,
-        " left it: restore it, or call stage back ",
-    );
-    text.push("if that step stopped (--anyway continues)");
+    text.push_number("", number as u64, " left it: ");
+    text.push(advice);
+    text.push(" (--anyway continues)");
     refusal(text)
 }
 
@@ -57,17 +54,22 @@ fn edited(alloc: Global, name: &str, serving: Serving) -> Stop {
     refusal(text)
 }
 
-/// The stop at a file that isn't as the step of this number left it. One that is as the step found
-/// it may be left so by a step, or by `back`, that stopped.
+/// What to do about a file of the last step that is as the step found it.
+const HALF: &str = "call stage back if it stopped, or undoing it did; or restore it";
+
+/// The stop at a file that isn't as the step of this number left it. One that is as the last step
+/// found it may be left so by that step, or by `back`, that stopped.
 pub(crate) fn unlike(
     alloc: Global,
     name: &str,
     number: u32,
+    is_last: bool,
     state: FileState,
     serving: Option<Serving>,
 ) -> Stop {
     match (serving, state) {
         (Some(serving), FileState::Edited) => edited(alloc, name, serving),
-        _ => not_as_left(alloc, name, number),
+        (_, FileState::Before) if is_last => not_as_left(alloc, name, number, HALF),
+        _ => not_as_left(alloc, name, number, "restore it"),
     }
 }

@@ -15,10 +15,11 @@ use crate::edit_texts::{Serving, serving_last, unlike};
 use crate::history::state_of;
 use crate::options::StageCall;
 use crate::outcome::{Lines, Stop};
-use crate::refusals::{RECORDS, in_folder};
+use crate::recorded::read_steps;
+use crate::refusals::in_folder;
 use crate::replaced_files::file_named;
 use crate::serves::Surveyed;
-use stage_folder::{StageFolder, recorded_steps};
+use stage_folder::StageFolder;
 use stage_records::{FileState, ReplacedFile, StageAction, StagingStep, last_step};
 use std::alloc::Global;
 
@@ -69,7 +70,10 @@ fn stop_unless_left<F: StageFolder>(
     };
     match state {
         FileState::After => Ok(()),
-        FileState::Before | FileState::Edited => Err(unlike(alloc, name, number, state, serving)),
+        FileState::Before | FileState::Edited => {
+            let is_last = last_step(later).is_none();
+            Err(unlike(alloc, name, number, is_last, state, serving))
+        }
     }
 }
 
@@ -150,20 +154,31 @@ fn stop_by_records<F: StageFolder>(
 ) -> Result<(), Stop>
     ensures { OnOk result (IsUnedited is_back (F.records folder.now) (F.files folder.now)) }
 {
-    let recorded = match recorded_steps(alloc, folder) {
+    let recorded = match read_steps(alloc, folder) {
         Ok(recorded) => recorded,
-        Err(fault) => return Err(in_folder(alloc, RECORDS, fault)),
+        Err(stop) => return Err(stop),
     };
     let stop = stop_if_some_edited(alloc, folder, is_back, &recorded.steps, serving);
     drop(recorded);
     stop
 }
 
-/// Stops before anything is changed, if a file isn't as the last step left it that replaced it and
-/// isn't undone; unless `--anyway` is given. It looks at the files if no server says what it
-/// serves, or if one serves what the last step left, and that isn't in place. A halt doesn't stop;
-/// nor does a put at such a server, since its rows begin with what is served. The files of the step
-/// that `back` is to undo are left to `undo`, which looks at them.
+// Stops if a record isn't a step's, or can't be read: which `--anyway` doesn't continue.
+fn stop_if_unread<F: StageFolder>(alloc: Global, folder: &F) -> Result<(), Stop> {
+    match read_steps(alloc, folder) {
+        Ok(recorded) => {
+            drop(recorded);
+            Ok(())
+        }
+        Err(stop) => Err(stop),
+    }
+}
+
+/// Stops before anything is changed, if a record can't be read; or if a file can't be read, or
+/// isn't as the last step left it that replaced it and isn't undone, unless `--anyway` is given. It
+/// looks if no server says what it serves, or if one serves what the last step left, and that isn't
+/// in place. A halt doesn't stop; nor does a put at such a server, since its rows begin with what
+/// is served. The files of the step that `back` is to undo are left to `undo`, which looks at them.
 pub fn stop_if_edited<R, D, F>(
     call: &StageCall<'_, R, D>,
     folder: &F,
@@ -180,8 +195,11 @@ where
     if is_halt(action) || !depends_on_files(action, servers) {
         return Ok(());
     }
-    let serving = serving_last(servers);
-    match stop_by_records(call.rt.alloc(), folder, is_back(action), serving) {
+    let (alloc, serving) = (call.rt.alloc(), serving_last(servers));
+    if let Err(stop) = stop_if_unread(alloc, folder) {
+        return Err(stop);
+    }
+    match stop_by_records(alloc, folder, is_back(action), serving) {
         Ok(()) => Ok(()),
         Err(stop) => lines.go_on_if(call.options.anyway, stop),
     }

@@ -168,7 +168,7 @@ pub(crate) fn offer_others_at<R>(rt: &R, port: u16, appid: &str, lines: &mut Lin
 where
     R: AllocGlobal + Net<Stream = TcpStream>,
 {
-    if lines.halted_ports().contains(&port) {
+    if lines.offered_ports().contains(&port) {
         return resume_app_at(rt, port, appid, lines);
     }
     lines.text.push_number("server at ", port as u64, ": ");

@@ -2,8 +2,9 @@
 
 // No contract says what is printed: rows compare it.
 
-ghost use Rattle.std.specs.Prelude.{◌≡◌, [], IfOk, true};
+ghost use Rattle.std.specs.Prelude.{◌≡◌, [], IfOk, IfSome, true};
 ghost use Rattle.stage_folder.specs.declared.records.RecordedSteps.{RecordedSteps};
+ghost use Rattle.stage_records.specs.FileStates as specs;
 ghost use Rattle.stage_records.specs.declared.file_state.FileState.TheVariants.{After};
 ghost use Rattle.stage_servers.specs.Whole.{AreAllRead, IsAsLeft};
 
@@ -22,7 +23,10 @@ pub(crate) fn state_of<F: StageFolder>(
     folder: &F,
     file: &ReplacedFile,
 ) -> Result<FileState, FolderFault>
-    ensures { IfOk result (λ state. state ≡ After → IsAsLeft (F.files folder.now) file.now) }
+    ensures state { IfOk result (λ state. IfSome (F.files folder.now)
+        (λ known. state ≡ specs.state_of file.now (known file.now.name))) }
+    ensures left { IfOk result (λ state.
+        state ≡ After → IsAsLeft (F.files folder.now) file.now) }
 {
     let found = folder.read(file.name.as_str())?;
     Ok(file.state(found.as_deref()))

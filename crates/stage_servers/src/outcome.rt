@@ -15,13 +15,16 @@ pub struct StageOutcome {
     pub is_done: bool,
 }
 
-/// The lines that are printed so far, and the operator's ports of the servers at which an app is
-/// halted, though not yet in the files.
+/// The lines that are printed so far; the operator's ports of the servers at which this call halted
+/// an app, though not yet in the files, and of those that are to offer it again then; and whether
+/// something is amiss, though all is done.
 #[derive(Drop)]
 pub struct Lines {
     pub text: TextBuffer,
     pub stderr: TextBuffer,
     halted_at: Vec<u16>,
+    offered_at: Vec<u16>,
+    is_amiss: bool,
 }
 
 // What holds of a halt that isn't in the files, and what to do.
@@ -54,12 +57,16 @@ impl Lines {
             text: TextBuffer::new(alloc),
             stderr: TextBuffer::new(alloc),
             halted_at: Vec::new(alloc),
+            offered_at: Vec::new(alloc),
+            is_amiss: false,
         }
     }
 
-    /// Notes that an app is halted at the server of a port, though not yet in the files.
-    pub(crate) fn note_halt(&mut self, port: u16) {
-        if self.halted_at.push(port).is_err() {
+    /// Notes that an app is halted at the server of a port, though not yet in the files; and
+    /// whether it is to be offered there again, once its release is halted in the files.
+    pub(crate) fn note_halt(&mut self, port: u16, is_offered: bool) {
+        let noted = self.halted_at.push(port).is_ok();
+        if !noted || is_offered && self.offered_at.push(port).is_err() {
             self.stderr.leave_out();
         }
     }
@@ -67,6 +74,27 @@ impl Lines {
     /// The ports of the servers at which the app of a halt is halted.
     pub(crate) fn halted_ports(&self) -> &[u16] {
         &self.halted_at
+    }
+
+    /// The ports of those that are to offer the app again.
+    pub(crate) fn offered_ports(&self) -> &[u16] {
+        &self.offered_at
+    }
+
+    /// Adds a line of what is amiss, though all is done: the status is 1 then.
+    // open: what is printed: bench/nights.
+    pub fn note_amiss(&mut self, reason: Stop) {
+        self.is_amiss = true;
+        match reason {
+            Stop::Refused(reason) | Stop::Failed(reason) => self.push_reason(reason, "\n"),
+            Stop::Memory => self.stderr.leave_out(),
+        }
+    }
+
+    /// Whether something is amiss, though all is done.
+    // open: whether it is: bench/nights.
+    pub fn is_amiss(&self) -> bool {
+        self.is_amiss
     }
 
     /// Whether no piece of a line is left out.

@@ -1,5 +1,7 @@
 //! The sentences of a refusal that many actions share.
 
+ghost use Rattle.stage_servers.specs.Stops.{SaysNoChange};
+
 use crate::outcome::Stop;
 use load::PathFault;
 use printing::TextBuffer;
@@ -11,7 +13,9 @@ pub const RECORDS: &str = ".stage";
 
 /// A refusal with this sentence.
 // open: what the sentence is: bench/outside.
-pub fn refusal(text: TextBuffer) -> Stop {
+pub fn refusal(text: TextBuffer) -> Stop
+    ensures { SaysNoChange result }
+{
     match text.finish() {
         Ok(text) => Stop::Refused(text),
         Err(_) => Stop::Memory,
@@ -47,7 +51,9 @@ pub fn no_manifest(alloc: Global, path: &str, fault: PathFault) -> Stop {
 
 /// A folder, or one of its files, can't be read or written.
 // open: what the sentence is: bench/outside.
-pub fn in_folder(alloc: Global, name: &str, fault: FolderFault) -> Stop {
+pub fn in_folder(alloc: Global, name: &str, fault: FolderFault) -> Stop
+    ensures { SaysNoChange result }
+{
     if fault == FolderFault::Memory {
         return Stop::Memory;
     }

@@ -85,8 +85,8 @@ where
 }
 
 /// Has each server halt the app of a halt, whatever the others do, unless no server is to load. No
-/// file is read for it. The lines then know at which ports the app is halted; those at which it was
-/// halted before that of a release aren't among them.
+/// file is read for it. The lines then know at which ports the app is halted, and at which it is to
+/// be offered again: not if it was, or may have been, halted before that of a release.
 // open: what a server does, and what is printed: bench/outside.
 pub fn halt_at_servers<R>(
     rt: &R,
@@ -104,9 +104,9 @@ where
         return;
     }
     for port in options.ports() {
-        let ends = is_offered_later(rt, *port, action);
-        if halt_at(rt, *port, appid, lines) && ends {
-            lines.note_halt(*port);
+        let is_offered = is_offered_later(rt, *port, action);
+        if halt_at(rt, *port, appid, lines) {
+            lines.note_halt(*port, is_offered);
         }
     }
 }

@@ -48,7 +48,8 @@ fn push_unread_file(number: u32, name: &str, fault: FolderFault, stderr: &mut Te
     stderr.push("\n");
 }
 
-// Adds a file that isn't as a step left it, or can't be read. Returns whether it is so.
+// Adds a file that isn't as a step left it, or can't be read. Returns whether it is as the step
+// left it.
 fn push_state<F: StageFolder>(
     folder: &F,
     number: u32,

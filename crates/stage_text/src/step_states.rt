@@ -8,7 +8,7 @@ use stage_records::{FileState, ReplacedFile, StagingStep};
 pub enum StepState {
     /// All its files were replaced.
     Done,
-    /// It stopped before all its files were replaced.
+    /// A file of it is as it found it: it stopped, or undoing it did.
     Stopped,
     /// It is undone.
     Undone,

@@ -1,7 +1,7 @@
 use Rattle.std.proofs.Common.{refl}
 use Rattle.stage_servers.specs.declared.outcome.Stop.TheVariants as stop
 use Rattle.stage_commands.proofs.Left.{unchanged_undo}
-use Rattle.stage_commands.proofs.backs.undo_unless_dry.Goals as goal
+use Rattle.stage_commands.proofs.undoing.undo_unless_dry.Goals as goal
 
 pub returns-then-not-are_complete-clause-stopped :
     goal.returns-then-not-are_complete-clause-stopped
