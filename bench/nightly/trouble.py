@@ -18,6 +18,8 @@ ERRORS = {
     "connect": ("ECONNREFUSED", "ETIMEDOUT"), "close": ("EIO",), "sendto": ("EPIPE",),
     "unlink": ("EROFS",),
 }
+# What a stop says if a step isn't undone by its record.
+AGAIN = "call stage back again\n"
 # At which of these calls, at most.
 MOST = {"openat": 60, "write": 14, "close": 60, "rename": 4}
 
@@ -64,8 +66,10 @@ def settle_steps(night, plan, changed, expected, errors):
         plan.step.is_partial = len(changed) != len(expected)
         if plan.step.spelt() in records:
             night.steps.append(plan.step)
-            if UNCHANGED in errors or KEPT in errors:
+            if UNCHANGED in errors or f"{KEPT}\n" in errors:
                 night.wrong("untrue: nothing has changed, but the step is recorded")
+        elif "but the record of step" in errors:
+            night.wrong("untrue: the step isn't recorded")
         elif changed:
             night.wrong(f"no record of {changed}: {records}, not {plan.step.spelt()}")
     if plan.undone:
@@ -74,8 +78,10 @@ def settle_steps(night, plan, changed, expected, errors):
             plan.undone.is_undone = False
         elif len(changed) != len(expected):
             night.wrong(f"undone, but {sorted(set(expected) - set(changed))} aren't restored")
-        elif UNCHANGED in errors:
-            night.wrong("untrue: nothing has changed, but the step is undone")
+        elif UNCHANGED in errors or AGAIN in errors:
+            night.wrong("untrue: the step is undone")
+        if "the step is undone, but" in errors and not plan.undone.is_undone:
+            night.wrong("untrue: the step isn't undone")
 
 
 def settle_server(night, call, plan, server, says_same, is_whole):

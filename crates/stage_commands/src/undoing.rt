@@ -132,8 +132,8 @@ fn print_undo<F: StageFolder>(
     }
 }
 
-/// Undoes a step, and records that; for `--dry-run` it only prints the step, unless that couldn't be
-/// undone.
+/// Undoes a step, and records that. For `--dry-run` it only prints the step, unless that couldn't
+/// be undone.
 #[tactic(auto, using(crate::proofs::Left::unchanged_undo))]
 pub(crate) fn undo_unless_dry<F: StageFolder>(
     alloc: Global,
