@@ -22,6 +22,10 @@ abbrev pub MixesState : List Row → Type 0
 MixesState rows = IsSome (first_of (codes "state") rows)
     × (IsSome (first_of (codes "since") rows) ⊎ IsSome (first_of (codes "until") rows))
 
+-- `--folder` without a page
+abbrev pub LacksPage : List Row → Type 0
+LacksPage rows = IsSome (first_of (codes "folder") rows) × ¬ IsSome (first_of (codes "html") rows)
+
 -- a report on logs, from one moment on and before another, or from the counts so far; with a
 -- server's counters, if its port is given
 pub record HasReport (rows : List Row) (args : ReportArgs) : Type 0 where
@@ -31,11 +35,13 @@ pub record HasReport (rows : List Row) (args : ReportArgs) : Type 0 where
   pub prometheus : HasFlag (codes "prometheus") rows args.prometheus
   pub picture : option_copied args.picture ≡ first_of (codes "svg") rows
   pub page : option_copied args.page ≡ first_of (codes "html") rows
+  pub folder : option_copied args.folder ≡ first_of (codes "folder") rows
   pub state : option_copied args.state ≡ first_of (codes "state") rows
   pub heads : HasFlag (codes "heads") rows args.heads
   pub port : IfSome args.operator (HasShort (codes "operator") rows)
   pub no_port : IfNone args.operator (LacksShort (codes "operator") rows)
   pub unmixed : ¬ MixesState rows
+  pub is_shown : ¬ LacksPage rows
 
 abbrev pub LacksReport : List Row → Type 0
 LacksReport rows = (args : ReportArgs) → ¬ HasReport rows args

@@ -42,7 +42,8 @@ abbrev pub report : VerbRules ToolVerb
 report = verb_rules (codes "report") verb.Report
     (files (codes "LOG") ∷ option (codes "since") ∷ option (codes "until")
     ∷ flag (codes "prometheus") ∷ option (codes "svg") ∷ option (codes "html")
-    ∷ option (codes "state") ∷ flag (codes "heads") ∷ operator_port false ∷ [])
+    ∷ option (codes "folder") ∷ option (codes "state") ∷ flag (codes "heads")
+    ∷ operator_port false ∷ [])
 
 abbrev pub simulate : VerbRules ToolVerb
 simulate = verb_rules (codes "simulate") verb.Simulate

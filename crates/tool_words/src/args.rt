@@ -64,6 +64,8 @@ pub struct ReportArgs<'a> {
     pub picture: Option<&'a str>,
     /// The file for a page in HTML.
     pub page: Option<&'a str>,
+    /// The folder of `stage` that the page also shows. Only with a page.
+    pub folder: Option<&'a str>,
     /// The file of the counts so far, which the report continues. Not with a moment.
     pub state: Option<&'a str>,
     /// Whether each group of lines has a head line.

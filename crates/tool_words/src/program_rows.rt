@@ -80,15 +80,21 @@ pub(crate) const REPORT: CommandRow<ToolVerb> = CommandRow {
             "Output file for a page of the report, in HTML",
         ),
         CommandArgument::Text(
+            "folder",
+            "DIR",
+            "Folder of `stage` whose offers and steps the page shows, too; only\n\
+             with --html",
+        ),
+        CommandArgument::Text(
             "state",
             "FILE",
             "File of the counts so far, from which the report continues, and\n\
-             into which it writes them; not with --since, --until, --svg or --html",
+             into which it writes them; not with --since or --until",
         ),
         CommandArgument::Flag("heads", "Print a head line before each group of lines"),
         CommandArgument::OptionalOperator(
-            "Operator's port of a server whose counters are printed, too:\n\
-             1 to 65535",
+            "Operator's port of a server whose counters are printed, too, and\n\
+             for Prometheus and on a page what it serves: 1 to 65535",
         ),
     ],
 };

@@ -4,7 +4,8 @@ ghost use Rattle.std.specs.Prelude.{◌↔◌, IfOk, IsSome, IsTrue, OnErr};
 ghost use Rattle.std.specs.Option.{option_copied};
 ghost use Rattle.clap.specs.Words.{first_of, found_of, rows_of};
 ghost use Rattle.command_line.specs.Values.{OnWrong};
-ghost use Rattle.tool_words.specs.ReportWords.{IsNamedTime, LacksNamedTime, MixesState};
+ghost use Rattle.tool_words.specs.ReportWords.{IsNamedTime, LacksNamedTime, LacksPage};
+ghost use Rattle.tool_words.specs.ReportWords.{MixesState};
 ghost use Rattle.tool_words.specs.Words.{VerbMakes, VerbMakesNone};
 
 use crate::args::{ReportArgs, ToolCommand};
@@ -27,6 +28,9 @@ pub(crate) fn read_report<'a>(
     if mixes_state(found) {
         return Err(ArgsError::Wrong(ArgumentFault::State));
     }
+    if lacks_page(found) {
+        return Err(ArgsError::Wrong(ArgumentFault::Missing));
+    }
     let Ok(logs) = texts_of(alloc, found, "LOG") else {
         return Err(ArgsError::Memory);
     };
@@ -37,6 +41,7 @@ pub(crate) fn read_report<'a>(
         prometheus: flag_of(found, "prometheus"),
         picture: optional_text(found, "svg"),
         page: optional_text(found, "html"),
+        folder: optional_text(found, "folder"),
         state: optional_text(found, "state"),
         heads: flag_of(found, "heads"),
         operator: optional_number(found, "operator"),
@@ -48,6 +53,13 @@ fn mixes_state(found: &ArgMatches<'_>) -> bool
     ensures { IsTrue result ↔ MixesState (rows_of (found_of found.now)) }
 {
     has_value(found, "state") && (has_value(found, "since") || has_value(found, "until"))
+}
+
+// Whether `--folder` is given without a page.
+fn lacks_page(found: &ArgMatches<'_>) -> bool
+    ensures { IsTrue result ↔ LacksPage (rows_of (found_of found.now)) }
+{
+    has_value(found, "folder") && !has_value(found, "html")
 }
 
 fn has_value(found: &ArgMatches<'_>, id: &str) -> bool
