@@ -1,0 +1,10 @@
+use Rattle.std.proofs.Common.{All, length}
+use Rattle.folder_facts.specs.Offered.{IsQuotaIn}
+use Rattle.folder_facts.proofs.quotas.quotas_of.Given as goal
+
+-- the quotas so far are the arrays'
+abbrev pub invariant-loop-left : goal.invariant-loop-left
+invariant-loop-left l = All (IsQuotaIn l.arrays) l.quotas.items
+
+abbrev pub decreases-loop-left : goal.decreases-loop-left
+decreases-loop-left l = length l.left

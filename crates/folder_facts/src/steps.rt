@@ -1,0 +1,136 @@
+//! The last steps of a folder, as a page shows them.
+
+ghost use Rattle.std.specs.Prelude.{◌≡◌, [], IfOk, length};
+ghost use Rattle.folder_facts.specs.Shown.{AreStepsShown, AreTaken};
+ghost use Rattle.folder_facts.specs.Shown as specs;
+
+use crate::unread::{no_record, no_records};
+use attrs::Text;
+use printing::TextBuffer;
+use report_page::TakenStep;
+use stage_folder::{RecordedSteps, StageFolder, recorded_steps};
+use stage_records::{StagingStep, StepAction};
+use stage_text::{push_action, step_state, time_of};
+use std::alloc::{AllocError, Global};
+
+/// How many steps are shown.
+const MOST_STEPS: usize = 20;
+
+/// The steps that are shown, the newest first, and a sentence for each record that can't be read.
+#[derive(Drop)]
+pub(crate) struct ShownSteps {
+    pub(crate) steps: Vec<TakenStep>,
+    pub(crate) unread: Vec<String>,
+}
+
+fn action_text(alloc: Global, action: &StepAction) -> Result<String, AllocError> {
+    let mut text = TextBuffer::new(alloc);
+    push_action(&mut text, action);
+    text.finish()
+}
+
+// The same text; empty if there is none.
+fn text_of(alloc: Global, text: &Option<Text>) -> Result<String, AllocError> {
+    match text {
+        Some(text) => String::from_str(alloc, text.as_str()),
+        None => Ok(String::new(alloc)),
+    }
+}
+
+// A step, before these later ones.
+fn taken_step<F: StageFolder>(
+    alloc: Global,
+    folder: &F,
+    step: &StagingStep,
+    later: &[StagingStep],
+) -> Result<TakenStep, AllocError>
+    ensures { IfOk result (λ taken. taken.number ≡ step.now.number) }
+{
+    let state = step_state(folder, step, later).name();
+    Ok(TakenStep {
+        number: u64::from(step.number),
+        time: time_of(alloc, step.time)?,
+        action: action_text(alloc, &step.action)?,
+        who: text_of(alloc, &step.user)?,
+        why: text_of(alloc, &step.because)?,
+        state: String::from_str(alloc, state)?,
+    })
+}
+
+// The last of these steps.
+fn last_steps(steps: &[StagingStep]) -> &[StagingStep]
+    ensures { result.now ≡ specs.last_steps steps.now }
+{
+    &steps[steps.len().saturating_sub(MOST_STEPS)..]
+}
+
+// The last of these steps, the newest first.
+fn taken_steps<F: StageFolder>(
+    alloc: Global,
+    folder: &F,
+    steps: &[StagingStep],
+) -> Result<Vec<TakenStep>, AllocError>
+    ensures { IfOk result (λ taken. AreTaken steps.now taken.items) }
+{
+    let mut taken = Vec::new(alloc);
+    let mut left = last_steps(steps);
+    while let [step, later @ ..] = left {
+        taken.push(taken_step(alloc, folder, step, later)?)?;
+        left = later;
+    }
+    taken.as_mut_slice().reverse();
+    Ok(taken)
+}
+
+// A sentence for each record that isn't a step's.
+fn unread_records(alloc: Global, numbers: &[u32]) -> Result<Vec<String>, AllocError>
+    ensures { IfOk result (λ unread. length unread.items ≡ length numbers.now) }
+{
+    let mut unread = Vec::new(alloc);
+    let mut left = numbers;
+    while let [number, others @ ..] = left {
+        unread.push(no_record(alloc, *number)?)?;
+        left = others;
+    }
+    Ok(unread)
+}
+
+// The steps of these records.
+fn shown_of<F: StageFolder>(
+    alloc: Global,
+    folder: &F,
+    recorded: &RecordedSteps,
+) -> Result<ShownSteps, AllocError>
+    ensures taken { IfOk result
+        (λ shown. AreTaken recorded.now.steps.items shown.steps.items) }
+    ensures unread { IfOk result
+        (λ shown. length shown.unread.items ≡ length recorded.now.unread.items) }
+{
+    let steps = taken_steps(alloc, folder, &recorded.steps)?;
+    let unread = unread_records(alloc, &recorded.unread)?;
+    Ok(ShownSteps { steps, unread })
+}
+
+/// The last steps of a folder.
+pub(crate) fn shown_steps<F: StageFolder>(
+    alloc: Global,
+    folder: &F,
+) -> Result<ShownSteps, AllocError>
+    ensures { IfOk result (λ shown. shown.unread.items ≡ []
+        → AreStepsShown (F.records folder.now) shown.steps.items) }
+{
+    match recorded_steps(alloc, folder) {
+        Ok(recorded) => {
+            let shown = shown_of(alloc, folder, &recorded);
+            drop(recorded);
+            shown
+        }
+        Err(fault) => {
+            let sentence = no_records(alloc, fault)?;
+            Ok(ShownSteps {
+                steps: Vec::new(alloc),
+                unread: Vec::from_array(alloc, [sentence])?,
+            })
+        }
+    }
+}
