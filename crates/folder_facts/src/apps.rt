@@ -13,6 +13,7 @@ use printing::TextBuffer;
 use report_page::{OfferedApp, OfferedQuota};
 use rule_lang::Rule;
 use stage_text::{RuleText, rule_lines, rule_text};
+use staging::halting_file;
 use std::alloc::{AllocError, Global};
 
 /// The apps that are shown, and a sentence for each file that can't be read.
@@ -39,13 +40,17 @@ fn offer_in(alloc: Global, statements: Vec<String>) -> Offer
     }
 }
 
-// What a program offers isn't known: the line names it.
-fn program_offer(alloc: Global, file: &str) -> Result<Offer, AllocError>
+// What a program offers: nothing if it halts its app. Of any other that isn't known: it is named.
+fn program_offer(alloc: Global, file: &str, halts: bool) -> Result<Offer, AllocError>
     ensures { (arrays : List Declaration)
         → IfOk result (λ offer. All (IsQuotaIn arrays) offer.quotas.items) }
 {
     let mut text = TextBuffer::new(alloc);
-    text.push_printed("by the program ", file, "");
+    if halts {
+        text.push("nothing to anybody");
+    } else {
+        text.push_printed("by the program ", file, "");
+    }
     let line = text.finish()?;
     let lines = Vec::from_array(alloc, [line])?;
     Ok(offer_in(alloc, lines))
@@ -102,7 +107,9 @@ fn file_offer(
         return Ok(offer_in(alloc, Vec::new(alloc)));
     };
     match app.entry.source() {
-        ProgramSource::Program(_) => program_offer(alloc, file),
+        ProgramSource::Program(_) => {
+            program_offer(alloc, file, bytes == halting_file(app.entry.source()))
+        }
         ProgramSource::Rule(_) => rule_offer(alloc, arrays, app, bytes, unread),
     }
 }

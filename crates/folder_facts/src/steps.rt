@@ -30,7 +30,7 @@ fn action_text(alloc: Global, action: &StepAction) -> Result<String, AllocError>
 }
 
 // The same text; empty if there is none.
-fn text_of(alloc: Global, text: &Option<Text>) -> Result<String, AllocError> {
+fn text_or_empty(alloc: Global, text: &Option<Text>) -> Result<String, AllocError> {
     match text {
         Some(text) => String::from_str(alloc, text.as_str()),
         None => Ok(String::new(alloc)),
@@ -51,8 +51,8 @@ fn taken_step<F: StageFolder>(
         number: u64::from(step.number),
         time: time_of(alloc, step.time)?,
         action: action_text(alloc, &step.action)?,
-        who: text_of(alloc, &step.user)?,
-        why: text_of(alloc, &step.because)?,
+        who: text_or_empty(alloc, &step.user)?,
+        why: text_or_empty(alloc, &step.because)?,
         state: String::from_str(alloc, state)?,
     })
 }
@@ -111,7 +111,8 @@ fn shown_of<F: StageFolder>(
     Ok(ShownSteps { steps, unread })
 }
 
-/// The last steps of a folder.
+/// The last steps of a folder. If its records, or one of them, can't be opened, it has none, and a
+/// sentence says why.
 pub(crate) fn shown_steps<F: StageFolder>(
     alloc: Global,
     folder: &F,

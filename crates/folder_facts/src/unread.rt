@@ -38,7 +38,15 @@ pub(crate) fn no_records(alloc: Global, fault: FolderFault) -> Result<String, Al
 
 /// The record of this number isn't a step's.
 pub(crate) fn no_record(alloc: Global, number: u32) -> Result<String, AllocError> {
-    format!(in alloc; "{RECORDS}/{number}.json isn't a record of a step: move it away")
+    let mut text = TextBuffer::new(alloc);
+    text.push_all(&[RECORDS, "/"]);
+    text.push_number(
+        "",
+        u64::from(number),
+        ".json isn't a record of a step: mend it (",
+    );
+    text.push("once it is moved away, a halt in it is forgotten)");
+    text.finish()
 }
 
 // Whether an allocation failed while a manifest was read.
