@@ -1,0 +1,9 @@
+//! A server's replies, by their lines. That to `state` has `generation 7`, `digest 9f86..`,
+//! `loaded TIME PATH`, `halted APPID` for each halted app, and `end`.
+#![tactic(auto)]
+
+mod facts;
+mod reply_lines;
+
+pub use facts::{ServerFacts, ServerReplies};
+pub use reply_lines::{first_after, lines_of, text_after};
