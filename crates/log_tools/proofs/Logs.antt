@@ -14,7 +14,7 @@ use Rattle.jiff_core.specs.declared.timestamp.Timestamp.{Timestamp}
 use Rattle.moments.specs.LogTimes.{IsTextOf}
 use Rattle.moments.specs.declared.moment.NamedTime.{NamedTime}
 use Rattle.report.specs.Counts.{Counts}
-use Rattle.report.specs.Lines.{lines_in}
+use Rattle.report.specs.Lines.{lines_after, lines_in}
 use Rattle.report.specs.Reading.{AddsLines, CountsLines, ReadsLog}
 use Rattle.report.specs.declared.counting.Report.{Report}
 use Rattle.report.specs.declared.window.Window.{Window}
@@ -55,6 +55,19 @@ module _ (window : Window) where
 
   only : (log : List ℕ) → lines_in log ≡ flat_map lines_in (log ∷ [])
   only log = sym (flat_map-cons lines_in log [] ∙ append-nil (lines_in log))
+
+  no_lines : lines_in [] ≡ []
+  unfolding lines_after
+  no_lines = refl
+
+  -- a log of which nothing is read
+  pub empty_log : (r : Report) → CountsLogs window 1 r r
+  empty_log r = record {
+    logs = [] ∷ [];
+    each = refl;
+    counted = subst (λ (lines : List (List ℕ)). CountsLines window lines r r)
+        (sym no_lines ∙ only []) (counts_none r);
+  }
 
   pub one_log : (known : Option (List ℕ)) (old new : Report) → ReadsLog window known old new
       → CountsLogs window 1 old new

@@ -1,7 +1,8 @@
 -- A report that continues from a state. Nothing is known about the files of a device, so the state
 -- and each log have some bytes.
 use Rattle.std.specs.Prelude.{◌≡◌, ℕ, List, [], Option, Some, None, length, flat_map, false}
-use Rattle.std.specs.Prelude.{Bool, string_bytes}
+use Rattle.std.specs.Prelude.{Bool, IfSome, string_bytes, unwrap_or}
+use Rattle.std.specs.Option.{option_or}
 use Rattle.markup.specs.WellFormed.{HasPicture}
 use Rattle.report.specs.Counts.{Counts}
 use Rattle.report.specs.Lines.{lines_in}
@@ -20,6 +21,14 @@ use Rattle.log_tools.specs.declared.reporting.ReportOutput.{ReportOutput}
 abbrev pub BeginsFrom : Option (List ℕ) → Report → Type 0
 BeginsFrom None r = (window : Window) → Counts window [] false r
 BeginsFrom (Some bytes) r = SpellsCounts bytes r
+
+-- the bytes, if there are any, spell these counts
+abbrev pub IsSpelledBy : Option (List ℕ) → Report → Type 0
+IsSpelledBy known r = IfSome known (λ bytes. SpellsCounts bytes r)
+
+-- the bytes of a state after a call: those that it writes, or else those that it found
+abbrev pub state_after : (written found : Option (List ℕ)) → List ℕ
+state_after written found = unwrap_or (option_or written found) []
 
 -- The report that counts what `begun` counted, and then the lines of a part of each of `n` logs.
 -- The new state spells it. Its places are `old` after these parts, up to 1000 unless more logs are

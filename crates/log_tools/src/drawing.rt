@@ -4,14 +4,17 @@ ghost use Rattle.std.specs.Prelude.{◌≡◌, ◌||◌, IfOk};
 ghost use Rattle.markup.specs.WellFormed.{HasPicture};
 ghost use Rattle.report_page.specs.Pages.{HasPage};
 
+use crate::log_end::newest_of;
+use crate::named_page::{NamedPage, facts_of};
 use crate::report_fault::ReportFault;
 use crate::reporting::{text_of, time_of};
 use bounded_files::ResourceFault;
 use moments::NamedTime;
 use report::Report;
-use report_page::page_text;
+use report_page::{PageFacts, page_text};
 use report_state::{Course, Faults};
 use std::alloc::{AllocError, Global};
+use std::rt::Files;
 use std::time::Clock;
 use timeline::draw_course;
 
@@ -49,21 +52,33 @@ pub(crate) fn moment_if(drawn: bool) -> Option<NamedTime> {
     if drawn { Some(NamedTime::Ago(0)) } else { None }
 }
 
-/// The page of a report with these faults, if one is written.
+/// The page of a report with these faults and facts, if one is written.
 pub(crate) fn page_if(
     alloc: Global,
     drawn: bool,
     report: &Report,
     faults: Faults,
-    written: Option<&str>,
+    facts: PageFacts<'_>,
 ) -> Result<Option<String>, AllocError>
     ensures { IfOk result (HasPage drawn) }
 {
     if drawn {
-        Ok(Some(page_text(alloc, report, faults, written)?))
+        Ok(Some(page_text(alloc, report, faults, facts)?))
     } else {
         Ok(None)
     }
+}
+
+/// The time of the logs' last line, if a page is written.
+pub(crate) fn newest_if<R>(
+    rt: &R,
+    drawn: bool,
+    logs: &[&str],
+) -> Result<Option<String>, ResourceFault>
+where
+    R: Files + AllocGlobal,
+{
+    if drawn { newest_of(rt, logs) } else { Ok(None) }
 }
 
 /// The texts of a picture and of a page.
@@ -73,22 +88,27 @@ pub(crate) struct Drawings {
     pub(crate) page: Option<String>,
 }
 
-/// Draws a report with this course, whose rows become the report's, and with its faults.
+/// Draws a report on these logs with this course, whose rows become the report's, and with its
+/// faults.
 pub(crate) fn draw_with<R>(
     rt: &R,
+    logs: &[&str],
     drawn: Drawn,
+    page: Option<NamedPage<'_>>,
     course: Option<Course>,
     report: &mut Report,
 ) -> Result<Drawings, ReportFault>
 where
-    R: AllocGlobal + Clock,
+    R: Files + AllocGlobal + Clock,
     ensures picture { IfOk result (λ d. HasPicture drawn.picture d.picture) }
     ensures page { IfOk result (λ d. HasPage drawn.page d.page) }
 {
     let written = time_of(rt, moment_if(drawn.page)).map_err(ReportFault::Resource)?;
+    let newest = newest_if(rt, drawn.page, logs).map_err(ReportFault::Resource)?;
+    let facts = facts_of(page, text_of(&written), text_of(&newest));
     let faults = faults_of(course.as_ref(), report);
     let drawings = match show_if(rt.alloc(), is_drawn(drawn), course, report) {
-        Ok(()) => drawings_of(rt.alloc(), drawn, report, faults, text_of(&written)),
+        Ok(()) => drawings_of(rt.alloc(), drawn, report, faults, facts),
         Err(error) => Err(error),
     };
     match drawings {
@@ -121,12 +141,12 @@ fn drawings_of(
     drawn: Drawn,
     report: &Report,
     faults: Faults,
-    written: Option<&str>,
+    facts: PageFacts<'_>,
 ) -> Result<Drawings, AllocError>
     ensures picture { IfOk result (λ d. HasPicture drawn.picture d.picture) }
     ensures page { IfOk result (λ d. HasPage drawn.page d.page) }
 {
     let picture = picture_if(alloc, drawn.picture, report)?;
-    let page = page_if(alloc, drawn.page, report, faults, written)?;
+    let page = page_if(alloc, drawn.page, report, faults, facts)?;
     Ok(Drawings { picture, page })
 }

@@ -168,8 +168,8 @@ fn length_of_lines(bytes: &[u8]) -> usize
     }
 }
 
-// At most `count` bytes from this place on.
-fn bytes_at<F: Read + Seek>(
+/// At most `count` bytes from this place on.
+pub(crate) fn bytes_at<F: Read + Seek>(
     alloc: Global,
     file: &mut F,
     from: u64,

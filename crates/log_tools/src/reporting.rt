@@ -8,7 +8,8 @@ ghost use Rattle.log_tools.specs.Reports.{CountsLogs, HasReported, IsTextBy, IsT
 ghost use Rattle.markup.specs.WellFormed.{HasPicture};
 ghost use Rattle.report_page.specs.Pages.{HasPage};
 
-use crate::drawing::{Drawn, is_drawn, moment_if, page_if, picture_if};
+use crate::drawing::{Drawn, is_drawn, moment_if, newest_if, page_if, picture_if};
+use crate::named_page::{NamedPage, facts_of, path_if};
 use crate::page_file::require_page;
 use crate::picture_file::{require_drawable, write_if};
 use crate::progress_lines::ProgressLines;
@@ -17,6 +18,7 @@ use bounded_files::ResourceFault;
 use jiff_core::Timestamp;
 use moments::{NamedTime, time_text};
 use report::{MetricKind, Report, Window, count_log};
+use report_page::PageFacts;
 use report_state::Faults;
 use std::alloc::{AllocError, Global};
 use std::fs::{self, File};
@@ -38,7 +40,8 @@ pub struct ReportOutput {
 
 /// The report on the logs' lines from `since` on and before `until`, in this form. A log named `-`
 /// is standard input. If `picture` names a file, a picture of the lines' course is written into
-/// it once all logs are read, and then the page into the file that `page` names.
+/// it once all logs are read, and then the page into the file that `page` names, with what that has
+/// of a server and of a folder.
 ///
 /// Returns B3 if the picture would overwrite a log, or a file that isn't empty and isn't a picture,
 /// and likewise for the page; if a log can't be read; if a moment is given, or a page written, and
@@ -54,7 +57,7 @@ pub fn report_logs<R>(
     until: Option<NamedTime>,
     form: ReportForm,
     picture: Option<&str>,
-    page: Option<&str>,
+    page: Option<NamedPage<'_>>,
 ) -> Result<ReportOutput, ResourceFault>
 where
     R: Files<File = File> + AllocGlobal + Clock + Eprint,
@@ -63,17 +66,17 @@ where
         (is_some page.entry)) }
 {
     require_drawable(rt, logs, picture)?;
-    require_page(rt, logs, page)?;
+    require_page(rt, logs, path_if(page))?;
     let drawn = Drawn {
         picture: picture.is_some(),
         page: page.is_some(),
     };
     let mut report = new_report(rt.alloc(), is_drawn(drawn))?;
-    let output = output_of_logs(rt, logs, since, until, form, drawn, &mut report);
+    let output = output_of_logs(rt, logs, since, until, form, drawn, page, &mut report);
     drop(report);
     let output = output?;
     write_if(rt, picture, &output.picture)?;
-    write_if(rt, page, &output.page)?;
+    write_if(rt, path_if(page), &output.page)?;
     Ok(output)
 }
 
@@ -95,6 +98,7 @@ fn output_of_logs<R>(
     until: Option<NamedTime>,
     form: ReportForm,
     drawn: Drawn,
+    page: Option<NamedPage<'_>>,
     report: &mut Report,
 ) -> Result<ReportOutput, ResourceFault>
 where
@@ -112,7 +116,9 @@ where
     };
     count_logs(rt, logs, &window, report)?;
     let written = time_of(rt, moment_if(drawn.page))?;
-    match output_of(rt.alloc(), form, kind, drawn, text_of(&written), report) {
+    let newest = newest_if(rt, drawn.page, logs)?;
+    let facts = facts_of(page, text_of(&written), text_of(&newest));
+    match output_of(rt.alloc(), form, kind, drawn, facts, report) {
         Ok(output) => Ok(output),
         Err(_) => Err(ResourceFault::Memory),
     }
@@ -123,7 +129,7 @@ fn output_of(
     form: ReportForm,
     kind: MetricKind,
     drawn: Drawn,
-    written: Option<&str>,
+    facts: PageFacts<'_>,
     report: &Report,
 ) -> Result<ReportOutput, AllocError>
     ensures text { IfOk result
@@ -132,13 +138,7 @@ fn output_of(
     ensures page { IfOk result (λ output. HasPage drawn.page output.page) }
 {
     let picture = picture_if(alloc, drawn.picture, report)?;
-    let page = page_if(
-        alloc,
-        drawn.page,
-        report,
-        Faults::of_report(report),
-        written,
-    )?;
+    let page = page_if(alloc, drawn.page, report, Faults::of_report(report), facts)?;
     let text = text_by(alloc, form, kind, report)?;
     Ok(ReportOutput {
         text,

@@ -1,9 +1,8 @@
 //! The file of a state.
 
-ghost use Rattle.std.specs.Prelude.{IfOk};
+ghost use Rattle.std.specs.Prelude.{◌≡◌, IfOk, option_copied, option_map};
 ghost use Rattle.report_state.specs.Places.{AreApart};
 ghost use Rattle.log_tools.specs.Continued.{BeginsFrom};
-ghost use Rattle.std.specs.Prelude.{option_map};
 
 use crate::report_fault::ReportFault;
 use bounded_files::{Device, Disk, ResourceFault};
@@ -86,10 +85,20 @@ pub(crate) fn found_state<R: Files + AllocGlobal>(
     }
 }
 
+/// The bytes, if there are any.
+pub(crate) fn bytes_of<'a>(found: &'a Option<Vec<u8>>) -> Option<&'a [u8]>
+    ensures { option_copied result ≡ option_map (λ bytes. bytes.items) found.now }
+{
+    match found {
+        Some(bytes) => Some(bytes.as_slice()),
+        None => None,
+    }
+}
+
 /// The state with which a report begins. Returns B9 if the bytes spell none.
-pub(crate) fn begun_state(alloc: Global, found: Option<Vec<u8>>) -> Result<ReportState, ReportFault>
+pub(crate) fn begun_state(alloc: Global, found: Option<&[u8]>) -> Result<ReportState, ReportFault>
     ensures counts { IfOk result
-        (λ state. BeginsFrom (option_map (λ bytes. bytes.items) found) state.report) }
+        (λ state. BeginsFrom (option_copied found.entry) state.report) }
     ensures apart { IfOk result (λ state. AreApart state.places.items) }
 {
     let Some(bytes) = found else {
@@ -102,7 +111,7 @@ pub(crate) fn begun_state(alloc: Global, found: Option<Vec<u8>>) -> Result<Repor
             course: None,
         });
     };
-    match read_state(alloc, bytes.as_slice()) {
+    match read_state(alloc, bytes) {
         Ok(Some(state)) => Ok(state),
         Ok(None) => Err(ReportFault::State),
         Err(_) => Err(ReportFault::Resource(ResourceFault::Memory)),

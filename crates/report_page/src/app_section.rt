@@ -1,10 +1,11 @@
 //! The section of an app: its versions with their counts, and its course.
 
-use crate::band::draw_name;
-use crate::elements::{close_table, number_cell, open_table, put, put_as, remark, share_cell};
+use crate::elements::{close_table, number_cell, open_table, put_as, put_name, remark, share_cell};
 use crate::findings::AppCourse;
+use crate::folder::FolderFacts;
+use crate::offer_section::draw_offer;
+use crate::source::PageSource;
 use markup::{Class, Document, Tag};
-use report::Report;
 use std::alloc::{AllocError, Global};
 use timeline::{VersionCourse, class_of, draw_app};
 
@@ -19,21 +20,23 @@ const HEADS: [&str; 7] = [
     "of installs",
 ];
 
-/// Draws the section of each app.
+/// Draws the section of each app, and of each one that only the folder has.
 pub(crate) fn draw_apps(
     alloc: Global,
     page: &mut Document,
-    report: &Report,
-    apps: &[AppCourse],
+    source: &PageSource<'_>,
 ) -> Result<(), AllocError> {
-    if apps.is_empty() {
+    if source.apps.is_empty() {
         page.open(Tag::Section);
         remark(page, "No client has made an update check.");
         page.close();
         page.line();
     }
-    for app in apps {
-        draw_section(alloc, page, report, app)?;
+    for app in source.apps {
+        draw_section(alloc, page, source, app)?;
+    }
+    if let Some(folder) = source.facts.folder {
+        draw_unasked(page, source, folder);
     }
     Ok(())
 }
@@ -41,27 +44,46 @@ pub(crate) fn draw_apps(
 fn draw_section(
     alloc: Global,
     page: &mut Document,
-    report: &Report,
+    source: &PageSource<'_>,
     app: &AppCourse,
 ) -> Result<(), AllocError> {
     page.open(Tag::Section);
     draw_heading(page, app);
+    draw_offer(page, source, app.appid.as_str());
     draw_versions(page, app);
-    draw_app(alloc, page, report, app.appid.as_str())?;
+    draw_app(alloc, page, source.report, app.appid.as_str())?;
     page.close();
     page.line();
     Ok(())
 }
 
+// What the folder offers the apps of which no client makes update checks.
+fn draw_unasked(page: &mut Document, source: &PageSource<'_>, folder: &FolderFacts) {
+    for app in folder.apps.as_slice() {
+        let appid = app.appid.as_str();
+        if !source.is_asked(appid) {
+            page.open(Tag::Section);
+            page.open(Tag::Heading);
+            put_name(page, appid);
+            page.close();
+            page.line();
+            draw_offer(page, source, appid);
+            remark(page, "No client has made an update check of it.");
+            page.close();
+            page.line();
+        }
+    }
+}
+
 // The app, and the versions of it that fail.
 fn draw_heading(page: &mut Document, app: &AppCourse) {
     page.open(Tag::Heading);
-    draw_name(page, app.appid.as_str());
+    put_name(page, app.appid.as_str());
     for version in app.versions.as_slice() {
         if version.newest.fails() {
             page.text(" ");
             page.open_as(Tag::Bold, Class::Bad);
-            draw_name(page, version.version.as_str());
+            put_name(page, version.version.as_str());
             page.text(" fails");
             page.close();
         }
@@ -105,7 +127,7 @@ fn draw_version(page: &mut Document, version: &VersionCourse, index: usize, asks
     page.open(Tag::TableRow);
     page.open(Tag::TableCell);
     put_as(page, Tag::Span, class_of(index), "");
-    draw_name(page, version.version.as_str());
+    put_name(page, version.version.as_str());
     page.close();
     number_cell(page, counts.asks);
     share_cell(page, Class::Number, counts.asks, asks);

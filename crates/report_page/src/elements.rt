@@ -1,6 +1,7 @@
 //! Elements of a page that have only a text.
 
 use markup::{Class, Document, Tag};
+use printing::Printed;
 use std::fmt::Display;
 
 /// Adds an element with this text.
@@ -15,6 +16,11 @@ pub(crate) fn put_as<T: Display + Drop>(page: &mut Document, tag: Tag, class: Cl
     page.open_as(tag, class);
     page.text(text);
     page.close();
+}
+
+/// Adds a text that others wrote. Its direction doesn't change that of its surroundings.
+pub(crate) fn put_name(page: &mut Document, name: &str) {
+    put_as(page, Tag::Span, Class::Name, Printed(name));
 }
 
 /// Adds a muted paragraph.

@@ -1,11 +1,17 @@
 //! What a report finds: what is wrong, the worst first.
 
-ghost use Rattle.std.specs.Prelude.{◌≡◌};
-
+use crate::facts::PageFacts;
+use crate::folder::{FolderFacts, OfferedQuota};
+use crate::source::PageSource;
+use moments::second_of_time;
 use report::{AppQuestion, ChartQuestion, Question, Report};
-use report_state::Faults;
+use server_replies::{ServerFacts, text_after};
 use std::alloc::{AllocError, Global};
 use timeline::{Outcomes, VersionCourse, asks_of_app, versions_of_app};
+
+/// The longest time for which a log of a living server has no line: ten minutes, of which it writes
+/// a line in each.
+const MOST_SECONDS: i128 = 600;
 
 /// An app with its versions, and the update checks of its course.
 #[derive(Drop)]
@@ -23,16 +29,39 @@ pub(crate) struct Failing<'a> {
     pub newest: Outcomes,
 }
 
+/// The end of a log that has ended.
+#[derive(Clone, Copy)]
+pub(crate) struct LogEnd<'a> {
+    pub time: &'a str,
+    /// How long before the page.
+    pub minutes: u64,
+}
+
+/// A quota that has granted all it may.
+#[derive(Clone, Copy)]
+pub(crate) struct UsedUp<'a> {
+    pub appid: &'a str,
+    pub quota: &'a OfferedQuota,
+}
+
 /// Something that isn't as it should be.
 #[derive(Clone, Copy)]
 pub(crate) enum Finding<'a> {
+    /// The server at this port doesn't reply.
+    Silent(u16),
     Fails(Failing<'a>),
+    Ended(LogEnd<'a>),
     /// Requests that got a status from 500 on.
     Errors(u64),
     /// Counts of versions that have no row, since others occurred first.
     Rowless(u64),
     /// Lines that the log lost.
     Lost(u64),
+    /// An app that the server halts.
+    Halted(&'a str),
+    UsedUp(UsedUp<'a>),
+    /// What of the folder couldn't be read.
+    Unread(&'a str),
     /// Update checks of apps that the server doesn't know.
     Unknown(u64),
     /// Lines that aren't the server's.
@@ -43,7 +72,8 @@ impl<'a> Finding<'a> {
     /// Whether an operator has to act.
     pub(crate) fn is_urgent(self) -> bool {
         match self {
-            Finding::Fails(_) | Finding::Errors(_) | Finding::Rowless(_) => true,
+            Finding::Silent(_) | Finding::Fails(_) | Finding::Ended(_) => true,
+            Finding::Errors(_) | Finding::Rowless(_) => true,
             _ => false,
         }
     }
@@ -69,24 +99,90 @@ pub(crate) fn apps_of(alloc: Global, report: &Report) -> Result<Vec<AppCourse>, 
 /// The findings, the worst first.
 pub(crate) fn findings_of<'a>(
     alloc: Global,
-    report: &Report,
-    faults: Faults,
-    apps: &'a [AppCourse],
+    source: &PageSource<'a>,
 ) -> Result<Vec<Finding<'a>>, AllocError> {
     let mut findings = Vec::new(alloc);
-    for app in apps {
+    note_urgent(&mut findings, source)?;
+    note_others(&mut findings, source)?;
+    Ok(findings)
+}
+
+fn note_urgent<'a>(
+    findings: &mut Vec<Finding<'a>>,
+    source: &PageSource<'a>,
+) -> Result<(), AllocError> {
+    if let Some(
+        ServerFacts {
+            port,
+            replies: None,
+        },
+    ) = source.facts.server
+    {
+        findings.push(Finding::Silent(port))?;
+    }
+    for app in source.apps {
         for version in app.versions.as_slice() {
             if version.newest.fails() {
                 findings.push(Finding::Fails(failing_of(app, version)))?;
             }
         }
     }
-    note(&mut findings, Finding::Errors(faults.errors))?;
-    note(&mut findings, Finding::Rowless(rowless_in(report)))?;
-    note(&mut findings, Finding::Lost(faults.lost))?;
-    note(&mut findings, Finding::Unknown(faults.unknown))?;
-    note(&mut findings, Finding::Foreign(faults.foreign))?;
-    Ok(findings)
+    if let Some(end) = end_of(source.facts) {
+        findings.push(Finding::Ended(end))?;
+    }
+    note(findings, Finding::Errors(source.faults.errors))?;
+    note(findings, Finding::Rowless(rowless_in(source.report)))
+}
+
+fn note_others<'a>(
+    findings: &mut Vec<Finding<'a>>,
+    source: &PageSource<'a>,
+) -> Result<(), AllocError> {
+    note(findings, Finding::Lost(source.faults.lost))?;
+    for line in source.state {
+        if let Some(appid) = text_after("halted", *line) {
+            findings.push(Finding::Halted(appid))?;
+        }
+    }
+    if let Some(folder) = source.facts.folder {
+        note_folder(findings, source, folder)?;
+    }
+    note(findings, Finding::Unknown(source.faults.unknown))?;
+    note(findings, Finding::Foreign(source.faults.foreign))
+}
+
+// The quotas that are used up, and what couldn't be read.
+fn note_folder<'a>(
+    findings: &mut Vec<Finding<'a>>,
+    source: &PageSource<'a>,
+    folder: &'a FolderFacts,
+) -> Result<(), AllocError> {
+    for app in folder.apps.as_slice() {
+        for quota in app.quotas.as_slice() {
+            if source.granted(quota).unwrap_or(0) >= quota.limit {
+                let appid = app.appid.as_str();
+                findings.push(Finding::UsedUp(UsedUp { appid, quota }))?;
+            }
+        }
+    }
+    for sentence in folder.unread.as_slice() {
+        findings.push(Finding::Unread(sentence.as_str()))?;
+    }
+    Ok(())
+}
+
+// The end of a log whose last line is over ten minutes older than the page. A server writes a line
+// each minute.
+fn end_of<'a>(facts: PageFacts<'a>) -> Option<LogEnd<'a>> {
+    let time = facts.newest?;
+    let end = second_of_time(time)?;
+    let written = second_of_time(facts.written?)?;
+    let seconds = (written as i128 - end as i128).max(0);
+    if seconds <= MOST_SECONDS {
+        return None;
+    }
+    let minutes = u64::try_from(seconds / 60).ok()?;
+    Some(LogEnd { time, minutes })
 }
 
 fn failing_of<'a>(app: &'a AppCourse, version: &'a VersionCourse) -> Failing<'a> {
@@ -102,7 +198,7 @@ fn note<'a>(findings: &mut Vec<Finding<'a>>, finding: Finding<'a>) -> Result<(),
     let empty = match finding {
         Finding::Errors(n) | Finding::Rowless(n) | Finding::Lost(n) => n == 0,
         Finding::Unknown(n) | Finding::Foreign(n) => n == 0,
-        Finding::Fails(_) => false,
+        _ => false,
     };
     if !empty {
         findings.push(finding)?;

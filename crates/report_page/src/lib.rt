@@ -1,6 +1,6 @@
 //! The page of a report: one file in HTML for an operator's browser, without scripts. It shows
-//! first what is wrong and what to do, then each app with its versions and its course, the loads,
-//! the requests, and the whole report.
+//! first what is wrong and what to do, then each app with what it is offered, its versions and its
+//! course, the steps, the loads, the requests, and the whole report.
 //!
 //! See docs/PROGRAM.md, "report".
 #![tactic(auto)]
@@ -8,10 +8,19 @@
 mod app_section;
 mod band;
 mod elements;
+mod facts;
+mod facts_line;
+mod finding_text;
 mod findings;
+mod folder;
 mod head;
+mod offer_section;
 mod page;
 mod request_section;
+mod source;
+mod step_section;
 
+pub use facts::PageFacts;
+pub use folder::{FolderFacts, OfferedApp, OfferedQuota, TakenStep};
 pub use head::PAGE_BEGINNING;
 pub use page::page_text;

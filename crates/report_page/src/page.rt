@@ -6,27 +6,32 @@ ghost use Rattle.report_page.specs.Pages.{IsPage};
 
 use crate::app_section::draw_apps;
 use crate::band::draw_state;
-use crate::elements::put_as;
+use crate::facts::PageFacts;
+use crate::facts_line::draw_facts;
 use crate::findings::{AppCourse, apps_of, findings_of};
 use crate::head::{PAGE_END, PAGE_HEAD};
 use crate::request_section::{draw_loads, draw_requests, draw_whole};
-use markup::{Class, Document, Tag};
+use crate::source::PageSource;
+use crate::step_section::draw_steps;
+use cell_assignments::read_assignments;
+use markup::Document;
 use report::Report;
 use report_state::Faults;
+use server_replies::lines_of;
 use std::alloc::{AllocError, Global};
 
-/// The page of a report, as the text of a file in HTML, with these faults, and the time at which it
-/// is written. Also returns `AllocError` if a number overflows 64 bits.
+/// The page of a report, as the text of a file in HTML, with these faults and facts. Also returns
+/// `AllocError` if a number overflows 64 bits.
 // open: when it fails; what the page shows: rows compare it.
 pub fn page_text(
     alloc: Global,
     report: &Report,
     faults: Faults,
-    written: Option<&str>,
+    facts: PageFacts<'_>,
 ) -> Result<String, AllocError>
     ensures { IfOk result (λ text. IsPage (string_bytes text)) }
 {
-    let content = content_of(alloc, report, faults, written)?;
+    let content = content_of(alloc, report, faults, facts)?;
     let mut text = String::from_str(alloc, PAGE_HEAD)?;
     text.push_str(content.as_str())?;
     text.push_str(PAGE_END)?;
@@ -37,12 +42,12 @@ fn content_of(
     alloc: Global,
     report: &Report,
     faults: Faults,
-    written: Option<&str>,
+    facts: PageFacts<'_>,
 ) -> Result<String, AllocError>
     ensures { IfOk result (λ text. IsContent (string_bytes text)) }
 {
     let mut page = Document::content(alloc);
-    let drawn = draw_content(alloc, &mut page, report, faults, written);
+    let drawn = draw_content(alloc, &mut page, report, faults, facts);
     let text = page.finish_content()?;
     drawn?;
     Ok(text)
@@ -53,40 +58,46 @@ fn draw_content(
     page: &mut Document,
     report: &Report,
     faults: Faults,
-    written: Option<&str>,
+    facts: PageFacts<'_>,
 ) -> Result<(), AllocError> {
     let apps = apps_of(alloc, report)?;
-    let drawn = draw_parts(alloc, page, report, faults, written, apps.as_slice());
+    let drawn = draw_from(alloc, page, report, faults, facts, apps.as_slice());
     drop(apps);
     drawn
+}
+
+fn draw_from(
+    alloc: Global,
+    page: &mut Document,
+    report: &Report,
+    faults: Faults,
+    facts: PageFacts<'_>,
+    apps: &[AppCourse],
+) -> Result<(), AllocError> {
+    let state = lines_of(alloc, facts.state())?;
+    let cells = read_assignments(alloc, facts.cells())?;
+    let source = PageSource {
+        report,
+        faults,
+        facts,
+        apps,
+        state: state.as_slice(),
+        cells: cells.as_slice(),
+    };
+    draw_parts(alloc, page, &source)
 }
 
 fn draw_parts(
     alloc: Global,
     page: &mut Document,
-    report: &Report,
-    faults: Faults,
-    written: Option<&str>,
-    apps: &[AppCourse],
+    source: &PageSource<'_>,
 ) -> Result<(), AllocError> {
-    let findings = findings_of(alloc, report, faults, apps)?;
-    draw_state(page, report, apps, findings.as_slice());
-    draw_time(page, written);
-    draw_apps(alloc, page, report, apps)?;
-    draw_loads(page, report);
-    draw_requests(page, report);
-    draw_whole(alloc, page, report)
-}
-
-// The time of the page. Its style also says when it has been open for a minute.
-fn draw_time(page: &mut Document, written: Option<&str>) {
-    if let Some(time) = written {
-        put_as(
-            page,
-            Tag::Paragraph,
-            Class::Facts,
-            format_args!("Page written at {time}."),
-        );
-        page.line();
-    }
+    let findings = findings_of(alloc, source)?;
+    draw_state(page, source, findings.as_slice());
+    draw_facts(page, source);
+    draw_apps(alloc, page, source)?;
+    draw_steps(page, source.facts.folder);
+    draw_loads(page, source.report);
+    draw_requests(page, source.report);
+    draw_whole(alloc, page, source.report)
 }

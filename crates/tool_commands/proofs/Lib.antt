@@ -1,3 +1,4 @@
 pub mod Unanswered
 pub mod Unlogged
 pub mod Uncompared
+pub mod Replied

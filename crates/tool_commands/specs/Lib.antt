@@ -4,5 +4,6 @@ pub mod DryRuns
 pub mod Whys
 pub mod LoggedWhys
 pub mod Diffs
+pub mod Servers
 pub mod Outputs
 pub mod Commands

@@ -6,7 +6,6 @@ use Rattle.std.specs.Prelude.{IsSome, is_some, length, option_copied}
 use Rattle.std.specs.String.{string_bytes}
 use Rattle.bounded_files.specs.Files.{KnownFiles}
 use Rattle.bounded_files.specs.declared.resource_fault.ResourceFault.TheVariants as resource
-use Rattle.cell_assignments.specs.Assignments.{Assignment}
 use Rattle.command_line.specs.declared.declared_shape.DeclaredShape.{DeclaredShape}
 use Rattle.log_tools.specs.Continued.{HasContinued}
 use Rattle.log_tools.specs.Reports.{HasReported}
@@ -19,11 +18,11 @@ use Rattle.program_inspection.specs.Explanations.{HasExplained, IsExplainRefusal
 use Rattle.program_inspection.specs.Orders.{IsOrderedFrom, IsOrderRefusal}
 use Rattle.program_inspection.specs.Traces.{HasTraced}
 use Rattle.program_tools.specs.Programs.{IsRunRefusal}
-use Rattle.report.specs.Counters.{counters_exposition}
 use Rattle.tool_commands.specs.Clients.{client_of}
 use Rattle.tool_commands.specs.Diffs.{HasDiffed, IsDiffRefusal}
-use Rattle.tool_commands.specs.DryRuns.{AreServed, HasDryRun, IsDryRunRefusal}
+use Rattle.tool_commands.specs.DryRuns.{HasDryRun, IsDryRunRefusal}
 use Rattle.tool_commands.specs.LoggedWhys.{HasLoggedWhy, IsLoggedRefusal}
+use Rattle.tool_commands.specs.Servers.{HasServer}
 use Rattle.tool_commands.specs.Whys.{HasWhy, IsWhyRefusal}
 use Rattle.tool_commands.specs.declared.tool_fault.Fault.{Fault}
 use Rattle.tool_commands.specs.declared.tool_fault.Fault.TheVariants as fault
@@ -35,13 +34,6 @@ use Rattle.tool_words.specs.declared.args.ToolCommand.TheVariants as command
 
 abbrev pub form_of : ReportArgs → ReportForm
 form_of args = record { prometheus = args.prometheus; heads = args.heads }
-
--- the counters of that server in Prometheus's format; empty without a port. No clause says how a
--- screen shows them
-abbrev pub HasCounters : ReportArgs → List ℕ → Type 0
-HasCounters args text =
-    (served : List Assignment) × AreServed args.operator served
-    × (args.prometheus ≡ true → text ≡ counters_exposition served)
 
 module _ (known : KnownFiles) where
   -- an accepted program with what is known about it
@@ -71,14 +63,14 @@ module _ (known : KnownFiles) where
   IsOutput (command.Explain path shape) explained = IsExplainedOutput path.now shape explained
   IsOutput (command.Order path out) (output.Ordered program) =
       IsOrderedFrom known path.now program.items
-  IsOutput (command.Report args) (output.Reported report counters) =
+  IsOutput (command.Report args) (output.Reported report server) =
       HasReported (length args.logs.items) args.since args.until (form_of args)
       (is_some args.picture) (is_some args.page) report
-      × HasCounters args (string_bytes counters)
-  IsOutput (command.Report args) (output.Continued report counters) =
+      × HasServer args (string_bytes server)
+  IsOutput (command.Report args) (output.Continued report server) =
       IsSome args.state × HasContinued (length args.logs.items) (form_of args)
       (is_some args.picture) (is_some args.page) report
-      × HasCounters args (string_bytes counters)
+      × HasServer args (string_bytes server)
   IsOutput (command.Simulate args) (output.Simulated simulation passes) =
       HasSimulated known args.json (client_of args.app) args.manifest.now
       (option_copied args.against) (option_copied args.appid) (option_copied args.picture)

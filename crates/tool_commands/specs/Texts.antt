@@ -21,14 +21,14 @@ use Rattle.tool_commands.specs.declared.output.ToolOutput.TheVariants as output
 abbrev pub output_text : ToolOutput → List ℕ
 output_text (output.Checked checked) = string_bytes checked.text
 output_text (output.Completed text) = string_bytes text
-output_text (output.Continued report counters) =
-    string_bytes report.text ++ string_bytes counters
+output_text (output.Continued report server) =
+    string_bytes report.text ++ string_bytes server
 output_text (output.Diffed diff does) = string_bytes diff.text
 output_text (output.Explained text) = string_bytes text
 output_text (output.Ordered program) = line (decimal (length program.items / 8) ++ codes " slots")
 output_text (output.Reply body) = body.items
-output_text (output.Reported report counters) =
-    string_bytes report.text ++ string_bytes counters
+output_text (output.Reported report server) =
+    string_bytes report.text ++ string_bytes server
 output_text (output.Staged outcome) = string_bytes outcome.text
 output_text (output.Simulated simulation does) = string_bytes simulation.text
 output_text (output.Traced lines choice instructions) =

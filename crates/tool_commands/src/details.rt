@@ -106,7 +106,7 @@ where
     R: Files + AllocGlobal,
     E: Write,
 {
-    if may_be_page(rt, path) {
+    if !is_foreign(rt, path) {
         return print_write_fault(rt, path, err);
     }
     let path = Printed(path);
@@ -115,6 +115,11 @@ where
         "{path}: a file that isn't empty and isn't a page of a report"
     )
     .is_ok()
+}
+
+// Whether there is a file that isn't a page; it was read.
+fn is_foreign<R: Files + AllocGlobal>(rt: &R, path: &str) -> bool {
+    matches!(may_be_page(rt, path), Ok(false))
 }
 
 // A server whose counters are requested and that doesn't reply.
@@ -195,7 +200,7 @@ where
         }
     }
     match args.page {
-        Some(path) if !may_be_page(rt, path) || is_misplaced(rt, path) => {
+        Some(path) if is_foreign(rt, path) || is_misplaced(rt, path) => {
             print_page_fault(rt, path, err)
         }
         _ => false,

@@ -12,6 +12,7 @@
 mod details;
 mod diffs;
 mod dry_runs;
+mod found_server;
 mod logged_whys;
 mod manifest_names;
 mod output;

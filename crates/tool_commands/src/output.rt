@@ -19,10 +19,10 @@ pub(crate) enum ToolOutput {
     Completed {
         text: String,
     },
-    /// The report on logs, with the counts of earlier calls; and the text of a server's counters.
+    /// The report on logs, with the counts of earlier calls; and what a server says.
     Continued {
         report: ReportOutput,
-        counters: String,
+        server: String,
     },
     /// The comparison of two manifests, and whether it passes.
     Diffed {
@@ -41,10 +41,10 @@ pub(crate) enum ToolOutput {
     Reply {
         body: Vec<u8>,
     },
-    /// The report on logs, of which the lines are printed; and the text of a server's counters.
+    /// The report on logs, of which the lines are printed; and what a server says.
     Reported {
         report: ReportOutput,
-        counters: String,
+        server: String,
     },
     /// What was done with a folder's files and servers, or its steps; and whether all was done.
     Staged(StageOutcome),
@@ -100,8 +100,8 @@ impl fmt::Display for ToolOutput {
         match self {
             ToolOutput::Checked(output) => f.write_str(output.text.as_str()),
             ToolOutput::Completed { text } => f.write_str(text),
-            ToolOutput::Continued { report, counters } => {
-                write!(f, "{}{counters}", report.text.as_str())
+            ToolOutput::Continued { report, server } => {
+                write!(f, "{}{server}", report.text.as_str())
             }
             ToolOutput::Diffed { output, .. } => f.write_str(output.text.as_str()),
             ToolOutput::Explained { text } => f.write_str(text),
@@ -113,9 +113,9 @@ impl fmt::Display for ToolOutput {
                 Ok(text) => f.write_str(text),
                 Err(_) => Err(fmt::Error),
             },
-            ToolOutput::Reported { report, counters } => {
+            ToolOutput::Reported { report, server } => {
                 f.write_str(report.text.as_str())?;
-                f.write_str(counters)
+                f.write_str(server)
             }
             ToolOutput::Staged(outcome) => f.write_str(outcome.text.as_str()),
             ToolOutput::Simulated { output, .. } => f.write_str(output.text.as_str()),

@@ -44,7 +44,7 @@ where
             Ok(program) => Ok(ToolOutput::Ordered { program }),
             Err(fault) => Err(Fault::Program(fault)),
         },
-        ToolCommand::Report(args) => reported(rt, args),
+        ToolCommand::Report(args) => reported(rt, disk, args),
         ToolCommand::Simulate(args) => simulated(rt, disk, args),
         ToolCommand::Stage(args) => staged(rt, disk, args),
         ToolCommand::Trace(run) => traced(rt.alloc(), disk, run),

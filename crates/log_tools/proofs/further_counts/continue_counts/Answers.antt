@@ -1,5 +1,5 @@
 use Rattle.log_tools.proofs.Continued.{continues}
-use Rattle.log_tools.proofs.continuing.continue_counts.Goals as goal
+use Rattle.log_tools.proofs.further_counts.continue_counts.Goals as goal
 
 pub returns-in-Ok : goal.returns-in-Ok
 returns-in-Ok g c =

@@ -1,0 +1,41 @@
+//! What a page shows besides the counts of a log: its time, when the log ends, what a server says
+//! of itself, and what a folder of `stage` has.
+
+use crate::folder::FolderFacts;
+use server_replies::{ServerFacts, ServerReplies};
+
+/// What a page shows besides the counts of a log. Times are in UTC by RFC 3339.
+#[derive(Clone, Copy)]
+pub struct PageFacts<'a> {
+    /// When the page is written.
+    pub written: Option<&'a str>,
+    /// The time of the log's last line.
+    pub newest: Option<&'a str>,
+    /// What a server says, if its port is given.
+    pub server: Option<ServerFacts<'a>>,
+    /// What a folder has, if one is given.
+    pub folder: Option<&'a FolderFacts>,
+}
+
+impl<'a> PageFacts<'a> {
+    // The replies of a server.
+    fn replies(self) -> Option<ServerReplies<'a>> {
+        self.server?.replies
+    }
+
+    /// The reply to `state`; empty if there is none.
+    pub(crate) fn state(self) -> &'a str {
+        match self.replies() {
+            Some(replies) => replies.state.unwrap_or(""),
+            None => "",
+        }
+    }
+
+    /// The reply to `cells`; empty if there is none.
+    pub(crate) fn cells(self) -> &'a str {
+        match self.replies() {
+            Some(replies) => replies.cells,
+            None => "",
+        }
+    }
+}

@@ -1,0 +1,58 @@
+//! What is known of the page, of the log and of the server: a paragraph.
+
+use crate::elements::{put_as, put_name};
+use crate::source::PageSource;
+use markup::{Class, Document, Tag};
+use server_replies::{ServerFacts, ServerReplies, first_after};
+
+/// Draws the time of the page, that of the log's last line, and what a server serves. The style of
+/// the paragraph also says when the page has been open for a minute.
+pub(crate) fn draw_facts(page: &mut Document, source: &PageSource<'_>) {
+    page.open_as(Tag::Paragraph, Class::Facts);
+    if let Some(time) = source.facts.written {
+        page.text(format_args!("Page written at {time}. "));
+    }
+    if let Some(time) = source.facts.newest {
+        page.text("The log ends at ");
+        put_name(page, time);
+        page.text(". ");
+    }
+    if let Some(server) = source.facts.server {
+        draw_server(page, source, server);
+    }
+    page.close();
+    page.line();
+}
+
+fn draw_server(page: &mut Document, source: &PageSource<'_>, server: ServerFacts<'_>) {
+    let port = server.port;
+    match server.replies {
+        Some(ServerReplies { state: Some(_), .. }) => {
+            page.text(format_args!("The server at {port} serves generation "));
+            draw_load(page, source.state);
+        }
+        Some(_) => page.text(format_args!(
+            "The server at {port} is an older one, and says only its counters. "
+        )),
+        None => page.text(format_args!("The server at {port} doesn't reply. ")),
+    }
+}
+
+// The generation, the time and the path of its load, and the digest.
+fn draw_load(page: &mut Document, state: &[&str]) {
+    put_name(page, first_after("generation", state).unwrap_or(""));
+    if let Some((time, path)) = first_after("loaded", state).unwrap_or("").split_once(' ') {
+        page.text(", loaded at ");
+        put_name(page, time);
+        page.text(" from ");
+        put_name(page, path);
+    }
+    page.text(", with digest ");
+    put_as(
+        page,
+        Tag::Span,
+        Class::Name,
+        first_after("digest", state).unwrap_or(""),
+    );
+    page.text(". ");
+}

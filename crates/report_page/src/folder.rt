@@ -1,0 +1,81 @@
+//! What a folder of `stage` has, as a page shows it.
+
+/// What a folder of `stage` has: what its apps are offered, and the steps so far.
+pub struct FolderFacts {
+    pub apps: Vec<OfferedApp>,
+    /// The newest step first.
+    pub steps: Vec<TakenStep>,
+    /// What of the folder couldn't be read: sentences without a full stop.
+    pub unread: Vec<String>,
+}
+
+impl Drop for FolderFacts {
+    fn drop(self) {
+        let Self {
+            apps: _apps,
+            steps: _steps,
+            unread: _unread,
+        } = self;
+    }
+}
+
+/// What an app's rule offers.
+pub struct OfferedApp {
+    pub appid: String,
+    /// The statements of its rule in words, in their order.
+    pub statements: Vec<String>,
+    pub quotas: Vec<OfferedQuota>,
+}
+
+impl Drop for OfferedApp {
+    fn drop(self) {
+        let Self {
+            appid: _appid,
+            statements: _statements,
+            quotas: _quotas,
+        } = self;
+    }
+}
+
+/// How often a rule may grant something at most. The count so far is the counter of this index.
+pub struct OfferedQuota {
+    pub array: String,
+    pub index: u64,
+    pub limit: u64,
+}
+
+impl Drop for OfferedQuota {
+    fn drop(self) {
+        let Self {
+            array: _array,
+            index: _index,
+            limit: _limit,
+        } = self;
+    }
+}
+
+/// A step that was taken in a folder, by its record. A text that isn't known is empty.
+pub struct TakenStep {
+    pub number: u64,
+    /// When it was taken, in UTC by RFC 3339.
+    pub time: String,
+    /// What it did, in words.
+    pub action: String,
+    pub who: String,
+    pub why: String,
+    /// `done`, `undone` or `stopped`.
+    pub state: String,
+}
+
+impl Drop for TakenStep {
+    fn drop(self) {
+        let Self {
+            number: _number,
+            time: _time,
+            action: _action,
+            who: _who,
+            why: _why,
+            state: _state,
+        } = self;
+    }
+}

@@ -1,0 +1,61 @@
+//! The section of steps: what was done with a folder's files, when and by whom.
+
+use crate::elements::{close_table, open_table, put, remark};
+use crate::folder::{FolderFacts, TakenStep};
+use markup::{Document, Tag};
+use printing::Printed;
+
+/// How many steps are shown.
+const MOST_STEPS: usize = 20;
+
+/// The heads of the columns of steps.
+const HEADS: [&str; 6] = ["Step", "Time, in UTC", "What", "By", "Why", "Now"];
+
+/// Draws the newest steps, if a folder is given.
+pub(crate) fn draw_steps(page: &mut Document, folder: Option<&FolderFacts>) {
+    let Some(folder) = folder else {
+        return;
+    };
+    page.open(Tag::Section);
+    put(page, Tag::Heading, "Steps");
+    page.line();
+    if folder.steps.is_empty() {
+        remark(page, "The folder has no step.");
+    } else {
+        draw_table(page, folder.steps.as_slice());
+    }
+    page.close();
+    page.line();
+}
+
+fn draw_table(page: &mut Document, steps: &[TakenStep]) {
+    open_table(page, &HEADS, 6);
+    let mut left = MOST_STEPS;
+    for step in steps {
+        if left > 0 {
+            draw_step(page, step);
+            left -= 1;
+        }
+    }
+    close_table(page);
+    let older = steps.len().saturating_sub(MOST_STEPS);
+    if older > 0 {
+        remark(page, format_args!("{older} earlier steps aren't shown."));
+    }
+}
+
+fn draw_step(page: &mut Document, step: &TakenStep) {
+    page.open(Tag::TableRow);
+    put(page, Tag::TableCell, step.number);
+    draw_text(page, step.time.as_str());
+    draw_text(page, step.action.as_str());
+    draw_text(page, step.who.as_str());
+    draw_text(page, step.why.as_str());
+    draw_text(page, step.state.as_str());
+    page.close();
+    page.line();
+}
+
+fn draw_text(page: &mut Document, text: &str) {
+    put(page, Tag::TableCell, Printed(text));
+}
