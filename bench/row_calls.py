@@ -26,6 +26,8 @@ SPELLED = {b"n": b"\n", b"r": b"\r", b"t": b"\t", b"\\": b"\\"}
 PATIENCE, LATE = 120, 0.5
 # What begins a row or a call, and what is wanted of it.
 CALLS, WANTS = {*"%$@<>^&(:"}, {*"|.!=?~"}
+# Lines on standard error that crates/rows doesn't see: those that the commands' runtime writes.
+NOTED = re.compile(rb"until the server restarts, unless|apps gone: ")
 # A server's log, which goes into files.
 LOGGED = re.compile(r'^\{"time":"[^"]*",.*?"kind":(?=")')
 
@@ -185,7 +187,7 @@ class Runner:
                 name = "connections" if rest.startswith('"connection"') else "log"
                 with open(self.folder / name, "a") as file:
                     file.write(rest)
-            else:
+            elif not NOTED.match(line):
                 told[1] += line
 
     def ended(self, process, told, threads):
