@@ -191,10 +191,13 @@ class Runner:
                 told[1] += line
 
     def ended(self, process, told, threads):
-        status = process.wait(PATIENCE)
+        try:
+            process.wait(PATIENCE)
+        except subprocess.TimeoutExpired:
+            process.kill()
         for it in threads:
             it.join(PATIENCE)
-        return status, *(it.decode(errors="replace") for it in told)
+        return process.wait(), *(it.decode(errors="replace") for it in told)
 
     def replied(self, stream):
         bytes_read = b""
