@@ -95,7 +95,7 @@ def wrong_put(day):
         if (status, "this lifts the halt of editor" in said) != (1, True):
             return f"put over a halt: {status} {said}"
         status, said = put("--anyway")
-        if status or not said.endswith(", editor is offered again\n"):
+        if status or ", editor is offered again\n" not in said:
             return f"put --anyway: {status} {said}"
         if OFFERED not in (said := day.run(asking())):
             return f"after put --anyway: {said}"
