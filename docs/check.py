@@ -12,9 +12,10 @@ few long sentences. Each wrong body can be put in place: what it replaces is in 
 The lines of sources have at most 100 columns.
 Each crate of a line of crates.txt is named there, and `edges.txt` has a reason for each that is
 named for little and drags much.
-Each file of rows is run, and its rows are counted anew; the examples that rows read are those of
-`examples`, and the transcripts of pages are rows. The page of help that the launcher prints is that
-of the programs, and has each of their commands, as has each list of the commands of one program.
+Each file of rows is run, its rows are counted anew, and its folders are its own; the examples that
+rows read are those of `examples`, and the transcripts of pages are rows. The page of help that the
+launcher prints is that of the programs, and has each of their commands, as has each list of the
+commands of one program.
 CONTRIBUTING's recipes name each file that their searches find, and its exercise fits. ERRORS has
 each code of the sources, VERIFIER each rule, and other pages each option, each warning, and each
 member of requests, manifests and the log. Tests that pages name are there.
@@ -89,6 +90,7 @@ def faults():
     yield from rows.left_out()
     yield from rows.lost_tests()
     yield from rows.false_counts()
+    yield from rows.shared_folders()
     yield from commands.other_lists()
     yield from recipes.lost_files()
     yield from recipes.lost_lines()

@@ -1,5 +1,6 @@
 """The files of rows: the program `rows` runs each of them, and its stored output has each count, as
-they are counted here. `tests.txt` lists each test, so that none is lost without a word."""
+they are counted here. All files of rows are run in one folder, so no two of them write into one
+below it. `tests.txt` lists each test, so that none is lost without a word."""
 import re
 
 from checking.places import CRATES, DOCS
@@ -50,6 +51,20 @@ def false_counts():
     for name, found in counts().items():
         if printed.get(name) not in (f"{found} rows", f"{found} row"):
             yield f"crates/rows/stdout: {name}: {printed.get(name)}, and here {found} are counted"
+
+
+# The folder into which a row writes a file.
+WRITTEN = re.compile(r"^(?:--|\+) ([^\s/]+)/", re.M)
+
+
+def shared_folders():
+    files = {}
+    for it in sorted((ROWS / "data").glob("*.rows")):
+        for folder in {*WRITTEN.findall(it.read_text())}:
+            files.setdefault(folder, []).append(it.name)
+    for folder, names in sorted(files.items()):
+        if len(names) > 1:
+            yield f"crates/rows/data: {' and '.join(names)} write into one folder, {folder}/"
 
 
 TESTS = DOCS / "checking" / "tests.txt"
