@@ -7,6 +7,7 @@ import time
 from asking import (
     Server, app, array, manifest, post, program_of, request, whole, without_moment
 )
+from refused_steps import LINE as STAGE
 from refusing import Wrong, told
 
 PATIENCE = 60
@@ -122,6 +123,17 @@ def is_refused_check(found, untroubled):
     return all((said[it], errors.get(it)) == (wanted[it], warned.get(it)) for it in others)
 
 
+# A status of a folder whose steps can't be read.
+UNREAD = "stage: no step is shown: .stage can't be read: out of memory: try again\n"
+
+
+def is_partial_status(found, untroubled):
+    """Whether a status says that no step is shown, for want of memory, and prints the apps."""
+    lines = iter(untroubled[1].splitlines())
+    shown = found[1].splitlines()
+    return found[0] == 1 and found[2].endswith(UNREAD) and all(it in lines for it in shown)
+
+
 def bytes_of(path):
     return path.read_bytes() if path.exists() else None
 
@@ -185,6 +197,10 @@ def kind(found, untroubled):
         return "E6 Memory, of an event"
     if is_refused_check(found, untroubled):
         return f"{LINE.search(found[2])[1]} of one manifest"
+    if (refused := STAGE.fullmatch(found[2])) and found == (1, "", found[2], WRITTEN):
+        return refused[1]
+    if is_partial_status(found, untroubled):
+        return "out of memory, of the steps"
     if found == untroubled:
         return "done all the same"
     raise Wrong(f"{found}")

@@ -10,6 +10,8 @@ from refusing import Wrong, told
 PATIENCE = 60
 # The last line: what is refused and why, or what a step found out of memory.
 LINE = re.compile(r"(?:.*\n)*(?:refused |stage: .*[ (])([BM]\d Memory|out of memory)\b.*\n")
+# What it says if a manifest couldn't be loaded, and `--anyway` continues.
+UNCOMPARED = "stage: a manifest is refused, so what changes isn't compared\n"
 # What it says if `stage back` has to undo a part of the step.
 HALFWAY = "call stage back"
 
@@ -83,6 +85,9 @@ class Steps:
             raise Wrong(f"{found}: a file has other bytes")
         if found == untroubled and files == new:
             return "done all the same"
+        is_done = found[0] == 0 and files == new and untroubled[1].endswith(found[1])
+        if is_done and found[2].endswith(UNCOMPARED):
+            return "done, not compared"
         refused = LINE.fullmatch(found[2])
         if found[0] == 1 and refused:
             changed = "" if files == old else ", after a file was replaced"
