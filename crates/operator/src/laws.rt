@@ -19,8 +19,8 @@ pub fn loads_go_on<L: Loader>(loader: &L)
     halts_are_so();
 }
 
-/// Law. A halt holds, whatever is loaded, until a line resumes the app. What is served is the last
-/// load, with the programs of the halted apps replaced.
+/// Law. A halt holds, whatever is loaded, until a line resumes the app. If what is served is the
+/// last load, with the programs of the halted apps replaced, it still is afterwards.
 pub fn halts_hold<L: Loader>(loader: &L)
     ensures hold { HaltsHold (L.loads loader.now) }
     ensures serve { LinesServeLoads (L.loads loader.now) }

@@ -19,7 +19,8 @@ LiftsNoneByUndoing steps step (Some present) (Some before) =
     LiftsNothing steps present.sources.apps.items before.sources.apps.items
 LiftsNoneByUndoing steps step present before = app_of_any_halt step.action ≡ None
 
--- undoing a step lifts no halt of these steps, by the manifests in place and before it
+-- undoing a step lifts no halt of these steps, by the manifests in place and before it, as far as
+-- that is known
 pub record UndoingLiftsNone (known : KnownFiles) (current : List ℕ) (steps : List StagingStep)
     (step : StagingStep) : Type 0 where
   pub present : Option CollectedManifest

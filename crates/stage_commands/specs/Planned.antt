@@ -1,4 +1,5 @@
--- What is known of an action before it changes a file: so it is done, or for `--dry-run` would be.
+-- What is known of an action before it changes a file: so it may be done, or for `--dry-run` could
+-- be.
 use Rattle.std.specs.Prelude.{ℕ, List, Option, IfSome}
 use Rattle.bounded_files.specs.Files.{KnownFiles}
 use Rattle.stage_folder.specs.Folders.{KnownFolder, KnownRecords}

@@ -32,7 +32,7 @@ module _ (known : KnownFiles) (manifest appid version : List ℕ) (options : Sta
     pub plan : PlansReleaseHaltOf folder app version file
 
   -- the app's rule is then the one before without the statements that offer the version; all other
-  -- files are as before, and the step is recorded
+  -- files are as before, and a step that replaces a file is recorded
   pub record HasHaltedRelease (old_records new_records : KnownRecords) (old new : KnownFolder)
       : Type 0 where
     pub app : AppSources

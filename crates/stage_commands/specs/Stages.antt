@@ -68,7 +68,7 @@ module _ (known : KnownFiles) (manifest appid : List ℕ) (buckets : ℕ) (optio
       pub plan : PlansRaiseOf folder app buckets file
 
     -- the app's rule is then the one before with this number in its threshold; all other files are
-    -- as before, and the step is recorded
+    -- as before, and a step that replaces a file is recorded
     pub record HasRaised (old_records new_records : KnownRecords) (old new : KnownFolder)
         : Type 0 where
       pub app : AppSources

@@ -10,7 +10,7 @@ use Rattle.stage_folder.specs.declared.folder_fault.RecordFault.TheVariants as f
 use Rattle.stage_folder.specs.declared.records.RecordedSteps.{RecordedSteps}
 use Rattle.stage_records.specs.Steps.{ReplacedFile, StagingStep, last_step}
 use Rattle.stage_records.specs.declared.step.StepAction.{StepAction}
-use Rattle.stage_servers.specs.Stops.{SaysNoChange}
+use Rattle.stage_servers.specs.Stops.{MayBeUnchanged}
 use Rattle.stage_servers.specs.Whole.{AreAllRead}
 use Rattle.stage_servers.specs.declared.options.StageOptions.{StageOptions}
 use Rattle.stage_servers.specs.declared.outcome.Stop.{Stop}
@@ -24,7 +24,7 @@ pub record IsLast (records : KnownRecords) (step : StagingStep) : Type 0 where
 
 -- ---- a step
 
--- a step that replaces files is recorded, and then performed; one that replaces none changes no
+-- a step that replaces files is recorded, and performed; one that replaces none changes no
 -- file, and may be recorded
 pub record Performs (step : StagingStep) (old_records new_records : KnownRecords)
     (old new : KnownFolder) : Type 0 where
@@ -130,9 +130,10 @@ LeftByUndo other step old_records new_records old new =
 
 -- ---- a record that can't be written
 
--- a stop says that nothing has changed if it is known that the records are as before, and only then
+-- unless memory runs out, a stop says that nothing has changed if it is known that the records are
+-- as before, and only then
 abbrev pub IsTrueAfter : RecordFault → Stop → Type 0
-IsTrueAfter (fault.NotMade why) stop = SaysNoChange stop
+IsTrueAfter (fault.NotMade why) stop = MayBeUnchanged stop
 IsTrueAfter other stop = MayChange stop
 
 -- the records after a stop at a step's record

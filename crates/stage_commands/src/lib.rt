@@ -5,8 +5,8 @@
 #![tactic(auto)]
 
 // How it works. A halt is sent to the servers before the folder is opened, and the folder is locked
-// (`locking.rt`). An action but a halt stops if a server serves something else than is in place
-// (`stage_servers`).
+// (`locking.rt`). An action but a halt stops if a server serves neither what is in place nor what
+// the last step left (`stage_servers`).
 //
 // The manifest in place is gathered like a load's. What is to be replaced is planned first, and
 // nothing is changed meanwhile: the file that halts an app (`app_halts.rt`), a rule with another

@@ -77,7 +77,7 @@ fn failure_at_record(alloc: Global, fault: FolderFault, known: &str, number: u32
     failure(text)
 }
 
-/// A new step isn't recorded: nothing has changed, or at most its record was made.
+/// Recording a new step failed: nothing has changed, or its record was made, or may have been.
 pub(crate) fn not_recorded(alloc: Global, number: u32, fault: RecordFault) -> Stop
     ensures { IsTrueAfter fault result }
 {

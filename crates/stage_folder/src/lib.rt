@@ -5,8 +5,9 @@
 
 // A step is recorded whole before its first file is replaced. So a step that fails in its middle,
 // or whose process ends there, can be undone: each of its files is as the step found it, or as the
-// step leaves it. The contracts say this of a folder whose files are known, which a test has in
-// memory. Nothing is known of the files of a device (`device_folder.rt`).
+// step leaves it. The laws `undone_restores` and `performed_is_undoable` say this of a folder whose
+// files are known, which a test has in memory. Nothing is known of the files of a device
+// (`device_folder.rt`).
 
 mod device_folder;
 mod device_path;

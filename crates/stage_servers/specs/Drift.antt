@@ -13,8 +13,8 @@ use Rattle.stage_servers.specs.declared.serves.Serves.TheVariants as serves
 use Rattle.stage_servers.specs.declared.serves.Surveyed.{Surveyed}
 
 -- what a server serves, by the digest that it replied, if a reply could be read: what is in place,
--- or the files of a step, with that digest; which step this is, and whether it is something else,
--- the survey found
+-- with that digest, or a step under that digest. Whose files these are, which step this is, and
+-- whether it is something else, the survey found
 abbrev pub IsServedBy : KnownFiles → (current : List ℕ) → (digest : Option (List ℕ)) → Serves
     → Type 0
 IsServedBy known current digest serves.InPlace = (manifest : CollectedManifest)

@@ -12,7 +12,7 @@ abbrev pub IsGatheredAs : (digest : List ℕ) → Option CollectedManifest → T
 IsGatheredAs digest (Some manifest) = HasDigest digest manifest
 IsGatheredAs digest None = ⊥
 
--- what the servers serve is known, by what they say, or by a log
+-- what the servers serve is known, by what they say, or by a log; or none has to reply
 abbrev pub IsKnown : (servers log : Option Bool) → Type 0
 IsKnown None None = ⊥
 IsKnown servers log = Unit {0}

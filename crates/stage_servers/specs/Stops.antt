@@ -3,6 +3,6 @@ use Rattle.stage_servers.specs.declared.outcome.Stop.{Stop}
 use Rattle.stage_servers.specs.declared.outcome.Stop.TheVariants as stop
 
 -- it doesn't say that something may have changed
-abbrev pub SaysNoChange : Stop → Type 0
-SaysNoChange (stop.Failed reason) = ⊥
-SaysNoChange other = Unit {0}
+abbrev pub MayBeUnchanged : Stop → Type 0
+MayBeUnchanged (stop.Failed reason) = ⊥
+MayBeUnchanged other = Unit {0}

@@ -1,6 +1,6 @@
 //! The sentences of a refusal that many actions share.
 
-ghost use Rattle.stage_servers.specs.Stops.{SaysNoChange};
+ghost use Rattle.stage_servers.specs.Stops.{MayBeUnchanged};
 
 use crate::outcome::Stop;
 use load::PathFault;
@@ -14,7 +14,7 @@ pub const RECORDS: &str = ".stage";
 /// A refusal with this sentence.
 // open: what the sentence is: bench/outside.
 pub fn refusal(text: TextBuffer) -> Stop
-    ensures { SaysNoChange result }
+    ensures { MayBeUnchanged result }
 {
     match text.finish() {
         Ok(text) => Stop::Refused(text),
@@ -52,7 +52,7 @@ pub fn no_manifest(alloc: Global, path: &str, fault: PathFault) -> Stop {
 /// A folder, or one of its files, can't be read or written.
 // open: what the sentence is: bench/outside.
 pub fn in_folder(alloc: Global, name: &str, fault: FolderFault) -> Stop
-    ensures { SaysNoChange result }
+    ensures { MayBeUnchanged result }
 {
     if fault == FolderFault::Memory {
         return Stop::Memory;

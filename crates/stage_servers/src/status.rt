@@ -215,8 +215,9 @@ fn push_shown<F: StageFolder>(alloc: Global, folder: &F, shown: &Shown, lines: &
     are_none(&recorded.unread)
 }
 
-/// Prints the status of a folder, also if its steps can't be read. Returns whether each step is
-/// whole, and the servers are known to serve what is in place.
+/// Prints the status of a folder, also if its steps can't be read. Returns whether each record is
+/// a step's, the last step's files are as it left them, and the servers, unless none is to load,
+/// are known to serve what is in place.
 // open: what is printed, and what a server serves: rows, and bench/outside.
 pub fn push_status<R, D, F>(
     call: &StageCall<'_, R, D>,

@@ -46,7 +46,7 @@ fn is_left_alone<F: StageFolder>(folder: &F, file: &ReplacedFile, later: &[Stagi
     }
 }
 
-// Whether a step stopped before all its files were replaced.
+// Whether a file of a step is as the step found it: it stopped, or undoing it did.
 fn has_stopped<F: StageFolder>(folder: &F, step: &StagingStep, later: &[StagingStep]) -> bool {
     for file in &step.files {
         if is_left_alone(folder, file, later) {

@@ -6,9 +6,9 @@
 
 // One world. The work of each thread is known: it made its runs one after the other, each from its
 // opening state by the steps of the machine, with the counters' replies. For the counters there is
-// one legal history of all events, a linearization without real-time order, in which the events of
-// each thread are in their order. A world is another thing: one list of events. In it each worker
-// does one instruction at a time, and each reply is that of the one row of counters that all share.
+// one legal history of all events, in which those of each thread are in their order (sequential
+// consistency). A world is another thing: one list of events. In it each worker does one
+// instruction at a time, and each reply is that of the one row of counters that all share.
 // By this law the promises of every list of events of a world are promises of threads: such a list
 // exists, and has the same results of runs and counters.
 //
@@ -25,8 +25,8 @@
 //   Swap takes no other. The list isn't empty: a world opens under its first ruleset.
 // - Each run's program is the one that its ruleset has for attribute 0 of the run, since a Start
 //   looks up no other appid. A run comes from the opening state, since a Start begins there.
-// - The history is legal from counters that are all 0, as a world's are when it opens. The events
-//   of a run occur in it in the run's order, since its worker makes them in no other.
+// - The history is legal from the values with which the world opens. The events of a run occur in
+//   it in the run's order, since its worker makes them in no other.
 //
 // A thread that only reads the counters does no run, and no worker of a world can do the same. So
 // its Loads are removed from the history, which stays legal. The rest of the history is that of the
