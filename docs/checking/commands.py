@@ -4,8 +4,8 @@ import re
 
 from checking.places import CRATES, HELP, ROOT
 
-ROLLOUT = tuple(f"command_words/src/{it}_rows.rt" for it in ("brake", "program", "server"))
-TOOLS = ("tool_words/src/manifest_rows.rt", "tool_words/src/program_rows.rt")
+ROLLOUT = tuple(f"cli_words/src/{it}_rows.rt" for it in ("brake", "program", "server"))
+TOOLS = ("cli_tool_words/src/manifest_rows.rt", "cli_tool_words/src/program_rows.rt")
 NAME = re.compile(r'^    name: "([a-z]+)",$', re.M)
 SHOWN = re.compile(r"^  ([a-z]+)  +[A-Z]", re.M)
 # A list of words: a pattern of the shell's, a set of Python's, or an array of Rust's.

@@ -9,7 +9,7 @@ from checking.places import CRATES, DOCS, ROOT, crates, pages
 OPTION = r'CommandArgument::(?!Words?\b)\w+\(\s*"([a-z-]+)"'
 NAMED = [
     ("option", "*_words/src/**/*.rt", OPTION, "PROGRAM.md"),
-    ("option", "command_line/src/*.rt", OPTION, "PROGRAM.md"),
+    ("option", "cli_base/src/*.rt", OPTION, "PROGRAM.md"),
     ("warning", "warnings/src/warning_names.rt", r'"([a-z-]+)" => true', "PROGRAM.md"),
     ("member", "omaha_json/specs/Members.antt", r'bytes_eq name \(codes "(\w+)"\)', "CLIENTS.md"),
     ("member", "omaha_json/specs/Request.antt", r'text_in \(codes "(\w+)"\)', "CLIENTS.md"),

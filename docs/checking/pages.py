@@ -85,7 +85,7 @@ def other_versions():
 
 def other_help():
     """The launcher prints a file if no program is built, and the programs a constant."""
-    source = CRATES / "command_line" / "src" / "help.rt"
+    source = CRATES / "cli_base" / "src" / "help.rt"
     constant = re.search(r'HELP: &str = "\\\n(.*?)";', source.read_text(), re.S)
     if not constant or constant[1].strip() != HELP.read_text().strip():
         yield f"building/{HELP.name}: not the constant of {source.relative_to(CRATES.parent)}"

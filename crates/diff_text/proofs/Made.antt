@@ -12,13 +12,13 @@ use Rattle.rule_lang.specs.Meaning.{Behaviour, allows, add_one_then, decide, dec
 use Rattle.rule_lang.specs.Trees.{Tree, Leaf, Negated}
 use Rattle.rule_lang.specs.declared.condition.Step.{Step}
 use Rattle.rule_lang.specs.declared.test.Test.{Test}
-use Rattle.rule_space.specs.Coordinates.{Dimension, cell_in, number_of, place_of}
-use Rattle.rule_space.specs.Lines.{IsLine}
-use Rattle.rule_space.specs.Machines.{State}
-use Rattle.rule_space.specs.Scopes.{IsWithin, Scope}
-use Rattle.rule_space.proofs.Cells.{begins_alike}
-use Rattle.rule_space.proofs.Ranges.{from_first, to_last}
-use Rattle.rule_space.proofs.Tests.{all_at}
+use Rattle.diff_space.specs.Coordinates.{Dimension, cell_in, number_of, place_of}
+use Rattle.diff_space.specs.Lines.{IsLine}
+use Rattle.diff_space.specs.Machines.{State}
+use Rattle.diff_space.specs.Scopes.{IsWithin, Scope}
+use Rattle.diff_space.proofs.Cells.{begins_alike}
+use Rattle.diff_space.proofs.Ranges.{from_first, to_last}
+use Rattle.diff_space.proofs.Tests.{all_at}
 use Rattle.rule_eval.specs.Folds.{Evaluated}
 use Rattle.diff_text.specs.Tables.{IsJoined, IsMade, IsNegated, IsPartOf, IsTable, IsTestTable}
 use Rattle.diff_text.specs.Tables.{IsWhole, Table, all_hold, join_by, tree_by}

@@ -11,10 +11,10 @@ use Rattle.rule_lang.specs.Parts.{OrFault}
 use Rattle.rule_lang.specs.Verdicts.{IsVerdict}
 use Rattle.rule_lang.specs.declared.condition.Step.{Step}
 use Rattle.rule_lang.specs.declared.rule.Statement.{Statement}
-use Rattle.rule_space.specs.Coordinates.{Dimension, place_of}
-use Rattle.rule_space.specs.Lines.{IsLine}
-use Rattle.rule_space.specs.Scopes.{Scope}
-use Rattle.rule_diff.specs.Rows.{SegmentSet, has_segment}
+use Rattle.diff_space.specs.Coordinates.{Dimension, place_of}
+use Rattle.diff_space.specs.Lines.{IsLine}
+use Rattle.diff_space.specs.Scopes.{Scope}
+use Rattle.diff_rules.specs.Rows.{SegmentSet, has_segment}
 use Rattle.diff_text.specs.Conditions.{IsMeant, MeansSets, ReadsBack, has_comment}
 use Rattle.diff_text.specs.Conditions.{have_place, is_grant, offer_if, one_release, tested_sets}
 use Rattle.diff_text.specs.Shown.{are_grants}

@@ -10,14 +10,14 @@ use Rattle.std.proofs.lemmas.List.{get_or-map, length-map}
 use Rattle.attrs.specs.Attributes.{Attributes}
 use Rattle.rule_lang.specs.Meaning.{allows}
 use Rattle.rule_lang.specs.declared.test.Comparison.TheVariants.{Ge, Le}
-use Rattle.rule_space.specs.Coordinates.{Dimension, begin_of, cell_in, number_of}
-use Rattle.rule_space.specs.Lines.{IsLine}
-use Rattle.rule_space.specs.Machines.{State}
-use Rattle.rule_space.specs.Numbers.{decides}
-use Rattle.rule_space.specs.Scopes.{IsWithin, Scope}
-use Rattle.rule_space.proofs.Cells.{begins_alike}
-use Rattle.rule_space.proofs.Ranges.{from_first, to_last}
-use Rattle.rule_diff.specs.Rows.{SegmentSet, has_segment}
+use Rattle.diff_space.specs.Coordinates.{Dimension, begin_of, cell_in, number_of}
+use Rattle.diff_space.specs.Lines.{IsLine}
+use Rattle.diff_space.specs.Machines.{State}
+use Rattle.diff_space.specs.Numbers.{decides}
+use Rattle.diff_space.specs.Scopes.{IsWithin, Scope}
+use Rattle.diff_space.proofs.Cells.{begins_alike}
+use Rattle.diff_space.proofs.Ranges.{from_first, to_last}
+use Rattle.diff_rules.specs.Rows.{SegmentSet, has_segment}
 use Rattle.diff_text.specs.declared.intervals.Interval.{Interval}
 use Rattle.diff_text.specs.Grants.{AreRangesOf, have_number, is_range}
 use Rattle.diff_text.specs.Tables.{agrees, is_cut}

@@ -11,15 +11,15 @@ use Rattle.std.proofs.lemmas.List.Folds.{list_all-append}
 use Rattle.std.proofs.lemmas.Option.{get_or_from_slice_get, same_Some, slice_get-map}
 use Rattle.attrs.specs.Attributes.{Attributes}
 use Rattle.rule_lang.specs.declared.test.Test.{Test}
-use Rattle.rule_space.specs.Coordinates.{Dimension, cell_in, number_of, place_of}
-use Rattle.rule_space.specs.Lines.{IsLine}
-use Rattle.rule_space.specs.Machines.{State}
-use Rattle.rule_space.specs.Scopes.{IsWithin, Scope}
-use Rattle.rule_space.specs.Tests.{ComparesNumberAt}
-use Rattle.rule_space.specs.declared.test_line.NumberComparison.{NumberComparison}
-use Rattle.rule_space.proofs.Cells.{is_at}
-use Rattle.rule_space.proofs.Ranges.{from_first}
-use Rattle.rule_space.proofs.Tests.{all_at}
+use Rattle.diff_space.specs.Coordinates.{Dimension, cell_in, number_of, place_of}
+use Rattle.diff_space.specs.Lines.{IsLine}
+use Rattle.diff_space.specs.Machines.{State}
+use Rattle.diff_space.specs.Scopes.{IsWithin, Scope}
+use Rattle.diff_space.specs.Tests.{ComparesNumberAt}
+use Rattle.diff_space.specs.declared.test_line.NumberComparison.{NumberComparison}
+use Rattle.diff_space.proofs.Cells.{is_at}
+use Rattle.diff_space.proofs.Ranges.{from_first}
+use Rattle.diff_space.proofs.Tests.{all_at}
 use Rattle.diff_text.specs.Tables.{IsJoined, IsNegated, IsPlace, IsTable}
 use Rattle.diff_text.specs.Tables.{IsTestTable, Table, all_hold, holds_at, join_by}
 use Rattle.diff_text.specs.Tables.{pairwise, truths}

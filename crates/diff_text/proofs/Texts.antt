@@ -6,10 +6,10 @@ use Rattle.std.specs.List.{AllZip}
 use Rattle.std.proofs.lemmas.List.{append_assoc}
 use Rattle.std.proofs.lemmas.List.Sorted.{list_any-IsPermutation}
 use Rattle.cells.specs.declared.array.CellArray.{CellArray}
-use Rattle.rule_diff.specs.Rows.{Row, SegmentSet}
-use Rattle.rule_space.specs.Coordinates.{Dimension}
-use Rattle.rule_space.specs.Scopes.{Scope}
-use Rattle.rule_space.proofs.Planned.{none_left, opened}
+use Rattle.diff_rules.specs.Rows.{Row, SegmentSet}
+use Rattle.diff_space.specs.Coordinates.{Dimension}
+use Rattle.diff_space.specs.Scopes.{Scope}
+use Rattle.diff_space.proofs.Planned.{none_left, opened}
 use Rattle.diff_text.specs.declared.kind.RowKind.{RowKind}
 use Rattle.diff_text.specs.declared.shown.AppRows.{AppRows}
 use Rattle.diff_text.specs.Conditions.{and_texts, grant_sets, is_grant}

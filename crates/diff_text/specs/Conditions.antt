@@ -11,12 +11,12 @@ use Rattle.rule_lang.specs.Verdicts.{IsVerdict}
 use Rattle.rule_lang.specs.declared.condition.Step.{Step}
 use Rattle.rule_lang.specs.declared.rule.Statement.{Statement}
 use Rattle.rule_lang.specs.declared.rule.Statement.TheVariants.{When}
-use Rattle.rule_space.specs.Coordinates.{Dimension, place_of}
-use Rattle.rule_space.specs.Machines.{State}
-use Rattle.rule_space.specs.Scopes.{IsWithin, Scope}
-use Rattle.rule_space.specs.declared.coordinate.Coordinate.{Coordinate}
-use Rattle.rule_space.specs.declared.coordinate.Coordinate.TheVariants.{Takes}
-use Rattle.rule_diff.specs.Rows.{SegmentSet, has_segment}
+use Rattle.diff_space.specs.Coordinates.{Dimension, place_of}
+use Rattle.diff_space.specs.Machines.{State}
+use Rattle.diff_space.specs.Scopes.{IsWithin, Scope}
+use Rattle.diff_space.specs.declared.coordinate.Coordinate.{Coordinate}
+use Rattle.diff_space.specs.declared.coordinate.Coordinate.TheVariants.{Takes}
+use Rattle.diff_rules.specs.Rows.{SegmentSet, has_segment}
 
 -- ---- which sets a rule can test
 

@@ -5,11 +5,11 @@ use Rattle.std.specs.List.{AllZip, list_all, list_any}
 use Rattle.attrs.specs.Attributes.{Attributes}
 use Rattle.cells.specs.declared.array.CellArray.{CellArray}
 use Rattle.rule_lang.specs.Shapes.{array_named}
-use Rattle.rule_space.specs.Coordinates.{Dimension, cell_in, number_of}
-use Rattle.rule_space.specs.Machines.{State}
-use Rattle.rule_space.specs.Scopes.{IsWithin, Scope}
-use Rattle.rule_space.specs.declared.coordinate.Coordinate.TheVariants.{Takes}
-use Rattle.rule_diff.specs.Rows.{SegmentSet, has_segment}
+use Rattle.diff_space.specs.Coordinates.{Dimension, cell_in, number_of}
+use Rattle.diff_space.specs.Machines.{State}
+use Rattle.diff_space.specs.Scopes.{IsWithin, Scope}
+use Rattle.diff_space.specs.declared.coordinate.Coordinate.TheVariants.{Takes}
+use Rattle.diff_rules.specs.Rows.{SegmentSet, has_segment}
 use Rattle.diff_text.specs.declared.intervals.Interval.{Interval}
 
 -- ---- numbers

@@ -7,7 +7,7 @@ use Rattle.std.specs.declared.cmp.Ordering.TheVariants.{Less, Equal, Greater}
 use Rattle.attrs.specs.Version.{version_of}
 use Rattle.releases.specs.Release.{Release}
 use Rattle.rule_lang.specs.Meaning.{version_cmp}
-use Rattle.rule_diff.specs.Rows.{Row}
+use Rattle.diff_rules.specs.Rows.{Row}
 use Rattle.diff_text.specs.declared.kind.RowKind.{RowKind}
 use Rattle.diff_text.specs.declared.kind.RowKind.TheVariants as kind
 

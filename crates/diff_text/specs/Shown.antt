@@ -5,9 +5,9 @@ use Rattle.std.specs.Prelude.{IsPermutation}
 use Rattle.std.specs.List.{AllZip, list_all, list_any, position_or_len}
 use Rattle.cells.specs.declared.array.CellArray.{CellArray}
 use Rattle.releases.specs.Release.{Release}
-use Rattle.rule_space.specs.Coordinates.{Dimension}
-use Rattle.rule_space.specs.Scopes.{Scope}
-use Rattle.rule_diff.specs.Rows.{SegmentSet, Row}
+use Rattle.diff_space.specs.Coordinates.{Dimension}
+use Rattle.diff_space.specs.Scopes.{Scope}
+use Rattle.diff_rules.specs.Rows.{SegmentSet, Row}
 use Rattle.diff_text.specs.declared.kind.RowKind.{RowKind}
 use Rattle.diff_text.specs.Conditions.{ReadBack, grant_sets, is_grant, tested_sets}
 use Rattle.diff_text.specs.Grants.{AreGrantTexts}

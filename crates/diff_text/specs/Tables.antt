@@ -12,14 +12,14 @@ use Rattle.rule_lang.specs.Trees.{Tree, Both, Either}
 use Rattle.rule_lang.specs.declared.condition.Step.{Step}
 use Rattle.rule_lang.specs.declared.test.Comparison.TheVariants.{Ge, Le}
 use Rattle.rule_lang.specs.declared.test.Test.{Test}
-use Rattle.rule_space.specs.Coordinates.{Dimension, place_of}
-use Rattle.rule_space.specs.Lines.{IsLine}
-use Rattle.rule_space.specs.Machines.{State}
-use Rattle.rule_space.specs.Numbers.{decides}
-use Rattle.rule_space.specs.Scopes.{IsWithin, Scope}
-use Rattle.rule_space.specs.Tests.{ComparesNumberAt}
-use Rattle.rule_space.specs.declared.test_line.NumberComparison.{NumberComparison}
-use Rattle.rule_diff.specs.Rows.{SegmentSet, has_segment}
+use Rattle.diff_space.specs.Coordinates.{Dimension, place_of}
+use Rattle.diff_space.specs.Lines.{IsLine}
+use Rattle.diff_space.specs.Machines.{State}
+use Rattle.diff_space.specs.Numbers.{decides}
+use Rattle.diff_space.specs.Scopes.{IsWithin, Scope}
+use Rattle.diff_space.specs.Tests.{ComparesNumberAt}
+use Rattle.diff_space.specs.declared.test_line.NumberComparison.{NumberComparison}
+use Rattle.diff_rules.specs.Rows.{SegmentSet, has_segment}
 use Rattle.diff_text.specs.declared.intervals.Interval.{Interval}
 use Rattle.diff_text.specs.Conditions.{is_grant}
 use Rattle.diff_text.specs.Grants.{is_range}

@@ -2,16 +2,16 @@
 
 ghost use Rattle.std.specs.Prelude.{◌≡◌, All, IfOk, IfSome, OnOk, map, string_bytes};
 ghost use Rattle.printing.specs.Pushed.{Puts};
-ghost use Rattle.rule_space.specs.Lines.{IsLine};
-ghost use Rattle.rule_space.specs.Scopes.{Scope};
+ghost use Rattle.diff_space.specs.Lines.{IsLine};
+ghost use Rattle.diff_space.specs.Scopes.{Scope};
 ghost use Rattle.diff_text.specs.Conditions as conditions;
 ghost use Rattle.diff_text.specs.Shown as specs;
 
 use crate::conjuncts::conjuncts_of;
 use crate::matching::is_grant;
 use crate::read_back::reads_back;
-use rule_diff::SegmentSet;
-use rule_space::Dimension;
+use diff_rules::SegmentSet;
+use diff_space::Dimension;
 use std::alloc::{AllocError, Global};
 
 fn are_grants(dimensions: &[Dimension], sets: &[SegmentSet]) -> bool

@@ -6,9 +6,9 @@ use crate::line_tests::{add_comparison, add_interval};
 use crate::matching::has_segment;
 use crate::test_texts::TestTexts;
 use attrs::{Attribute, Flag};
-use rule_diff::SegmentSet;
+use diff_rules::SegmentSet;
+use diff_space::{Coordinate, Dimension};
 use rule_lang::{Comparison, Literal, Test};
-use rule_space::{Coordinate, Dimension};
 use std::alloc::{AllocError, Global};
 
 fn add_flag(texts: &mut TestTexts, flag: Flag, segments: &[u16]) {

@@ -3,8 +3,8 @@
 ghost use Rattle.std.specs.Prelude.{◌≡◌, All, IfOk, IfSome, OnOk, List, map, string_bytes};
 ghost use Rattle.std.specs.Prelude.{option_copied};
 ghost use Rattle.printing.specs.Pushed.{Puts};
-ghost use Rattle.rule_space.specs.Lines.{IsLine};
-ghost use Rattle.rule_space.specs.Scopes.{Scope};
+ghost use Rattle.diff_space.specs.Lines.{IsLine};
+ghost use Rattle.diff_space.specs.Scopes.{Scope};
 ghost use Rattle.diff_text.specs.Conditions.{grant_sets};
 ghost use Rattle.diff_text.specs.Grants as specs;
 
@@ -12,9 +12,9 @@ use crate::intervals::Interval;
 use crate::left_ranges::ranges_of;
 use crate::matching::is_grant;
 use cells::CellArray;
-use rule_diff::SegmentSet;
+use diff_rules::SegmentSet;
+use diff_space::{Coordinate, Dimension};
 use rule_lang::array_named;
-use rule_space::{Coordinate, Dimension};
 use std::alloc::{AllocError, Global};
 use std::fmt::Write;
 

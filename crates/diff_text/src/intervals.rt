@@ -1,6 +1,6 @@
 //! Intervals: neighbouring segments of a line, as one range of numbers.
 
-use rule_space::Dimension;
+use diff_space::Dimension;
 use std::alloc::{AllocError, Global};
 
 /// The numbers from `low` to `high`, both included.

@@ -3,16 +3,16 @@
 
 ghost use Rattle.std.specs.Prelude.{◌≡◌, All, IfOk, IfSome, map, true};
 ghost use Rattle.std.specs.List.{list_all};
-ghost use Rattle.rule_space.specs.Lines.{IsLine};
-ghost use Rattle.rule_space.specs.Scopes.{Scope};
+ghost use Rattle.diff_space.specs.Lines.{IsLine};
+ghost use Rattle.diff_space.specs.Scopes.{Scope};
 ghost use Rattle.diff_text.specs.Grants as specs;
 ghost use Rattle.diff_text.specs.Tables as tables;
 
 use crate::intervals::{Interval, intervals_of};
 use crate::matching::agrees_at;
-use rule_diff::SegmentSet;
+use diff_rules::SegmentSet;
+use diff_space::{Dimension, decides};
 use rule_lang::Comparison;
-use rule_space::{Dimension, decides};
 use std::alloc::{AllocError, Global};
 
 fn has_number(range: Interval, number: u128) -> bool

@@ -3,8 +3,8 @@
 use crate::intervals::Interval;
 use crate::test_texts::TestTexts;
 use attrs::{Context, Flag};
+use diff_space::{Coordinate, Dimension};
 use rule_lang::{Comparison, Test};
-use rule_space::{Coordinate, Dimension};
 
 const WORD: u128 = 0x1_0000_0000;
 

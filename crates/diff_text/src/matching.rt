@@ -1,13 +1,13 @@
 //! Whether tables are those of a row's sets.
 
 ghost use Rattle.std.specs.Prelude.{◌≡◌, option_copied, slice_get};
-ghost use Rattle.rule_diff.specs.Rows as rows;
+ghost use Rattle.diff_rules.specs.Rows as rows;
 ghost use Rattle.diff_text.specs.Conditions as conditions;
 ghost use Rattle.diff_text.specs.Tables as specs;
 
 use crate::truth_table::Table;
-use rule_diff::SegmentSet;
-use rule_space::{Coordinate, Dimension};
+use diff_rules::SegmentSet;
+use diff_space::{Coordinate, Dimension};
 
 /// Whether one of the segments is this one.
 pub(crate) fn has_segment(segments: &[u16], segment: usize) -> bool

@@ -5,8 +5,8 @@ ghost use Rattle.rule_lang.specs.Trees.{Leaf, Tree};
 ghost use Rattle.diff_text.specs.Tables as specs;
 
 use crate::truth_table::{Table, joined_truths, negated_truths, table_of};
+use diff_space::Dimension;
 use rule_lang::Test;
-use rule_space::Dimension;
 use std::alloc::{AllocError, Global};
 use std::marker::Model;
 

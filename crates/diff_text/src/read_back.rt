@@ -3,16 +3,16 @@
 ghost use Rattle.std.specs.Prelude.{◌≡◌, ◌∷◌, [], All, IfOk, IfSome, Ok, string_bytes};
 ghost use Rattle.std.specs.Prelude.{true, false};
 ghost use Rattle.rule_lang.specs.Verdicts.{IsVerdict};
-ghost use Rattle.rule_space.specs.Lines.{IsLine};
-ghost use Rattle.rule_space.specs.Scopes.{Scope};
+ghost use Rattle.diff_space.specs.Lines.{IsLine};
+ghost use Rattle.diff_space.specs.Scopes.{Scope};
 ghost use Rattle.diff_text.specs.Conditions as specs;
 
 use crate::matching::are_tables_of;
 use crate::steps::tables_of;
 use cells::Shape;
-use rule_diff::SegmentSet;
+use diff_rules::SegmentSet;
+use diff_space::Dimension;
 use rule_lang::{Rule, RuleCondition, RuleFault, Statement, parse};
-use rule_space::Dimension;
 use std::alloc::{AllocError, Global};
 
 // The condition, if there is one `when` that offers release 1.

@@ -2,8 +2,8 @@
 
 ghost use Rattle.std.specs.Prelude.{◌≡◌, ◌++◌, All, IfOk, IfSome, OnOk, IsPermutation};
 ghost use Rattle.std.specs.List.{AllZip};
-ghost use Rattle.rule_space.specs.Lines.{IsLine};
-ghost use Rattle.rule_space.specs.Scopes.{Scope};
+ghost use Rattle.diff_space.specs.Lines.{IsLine};
+ghost use Rattle.diff_space.specs.Scopes.{Scope};
 ghost use Rattle.diff_text.specs.Kinds as kinds;
 ghost use Rattle.diff_text.specs.Shown as specs;
 
@@ -12,9 +12,9 @@ use crate::grants::grants_of;
 use crate::shown::{AppRows, ShownRelease, ShownRow};
 use crate::sources::{Sources, has_releases, kind_of, shown_current, shown_next, sources_of};
 use cells::CellArray;
+use diff_rules::{Contents, Diff, Row};
+use diff_space::Dimension;
 use releases::Release;
-use rule_diff::{Contents, Diff, Row};
-use rule_space::Dimension;
 use std::alloc::{AllocError, Global};
 
 // A row as it is shown. The days that its condition names are added to `days`.

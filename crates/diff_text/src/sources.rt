@@ -9,8 +9,8 @@ ghost use Rattle.diff_text.specs.Shown as specs;
 use crate::kind::RowKind;
 use crate::shown::ShownRelease;
 use cells::CellArray;
+use diff_rules::{Contents, Row};
 use releases::Release;
-use rule_diff::{Contents, Row};
 use std::alloc::{AllocError, Global};
 use std::marker::Model;
 

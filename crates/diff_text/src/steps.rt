@@ -1,14 +1,14 @@
 //! The tables of a condition.
 
 ghost use Rattle.std.specs.Prelude.{All, IfOk, IfSome};
-ghost use Rattle.rule_space.specs.Lines.{IsLine};
-ghost use Rattle.rule_space.specs.Scopes.{Scope};
+ghost use Rattle.diff_space.specs.Lines.{IsLine};
+ghost use Rattle.diff_space.specs.Scopes.{Scope};
 ghost use Rattle.diff_text.specs.Tables.{IsMade, IsWhole};
 
 use crate::parts::{Part, joined, negated, tested};
+use diff_space::Dimension;
 use rule_eval::{ConditionFold, fold};
 use rule_lang::{RuleCondition, Test};
-use rule_space::Dimension;
 use std::alloc::{AllocError, Global};
 
 #[derive(Clone, Copy)]

@@ -5,9 +5,9 @@ ghost use Rattle.std.specs.Ordering.{nat_cmp};
 ghost use Rattle.rule_lang.specs.Meaning as meaning;
 ghost use Rattle.diff_text.specs.Tables as specs;
 
+use diff_space::{Dimension, NumberComparison, number_comparison_at};
 use rule_eval::allows;
 use rule_lang::Test;
-use rule_space::{Dimension, NumberComparison, number_comparison_at};
 use std::alloc::{AllocError, Global};
 use std::marker::Model;
 

@@ -22,7 +22,7 @@ use Rattle.cells.specs.Arrays.{AppShape}
 use Rattle.cells.specs.Events.{CanReply}
 use Rattle.cells.specs.declared.event.CellEvent.{CellEvent}
 use Rattle.cells.specs.declared.event.CellOp.{CellOp}
-use Rattle.reasons.specs.RuleLines.{ExplainsRule}
+use Rattle.why_choice.specs.RuleLines.{ExplainsRule}
 use Rattle.rule_compile.specs.Means.{Means}
 use Rattle.rule_lang.specs.declared.rule.Statement.{Statement}
 use Rattle.releases.specs.Appid.{is_appid}

@@ -8,7 +8,7 @@ use Rattle.bpf_verify.specs.Covers.{AreLawful, HasPossibleReply}
 use Rattle.cells.specs.Events.{IsEvent}
 use Rattle.cells.specs.Grown.{GrewBy}
 use Rattle.cells.specs.declared.event.CellEvent.{CellEvent}
-use Rattle.reasons.specs.RuleLines.{ExplainsRule}
+use Rattle.why_choice.specs.RuleLines.{ExplainsRule}
 use Rattle.trace.specs.Jumps.{last_jump_of}
 use Rattle.dry_run.specs.declared.app_runs.Course.{Course}
 use Rattle.dry_run.specs.declared.app_runs.Course.TheVariants.{ByRule, ByRun}

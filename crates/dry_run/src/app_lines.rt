@@ -8,11 +8,11 @@ ghost use Rattle.dry_run.specs.Courses as specs;
 use crate::app_runs::Course;
 use attrs::{AppFacts, Context, Text};
 use printing::Printed;
-use reasons::push_quoted;
 use releases::Release;
 use std::alloc::{AllocError, Global};
 use std::fmt::Write;
 use trace::Jump;
+use why_choice::push_quoted;
 
 /// The lines of an app that the ruleset doesn't know, followed by its notes.
 // open: the lines, and whether an allocation fails: rows.

@@ -8,11 +8,11 @@ ghost use Rattle.dry_run.specs.Meanings.{HasMeaning};
 use attrs::Attrs;
 use bpf_verify::Verified;
 use cells::PlainPass;
-use reasons::explain_rule;
 use rule_lang::Rule;
 use std::alloc::{AllocError, Global};
 use std::sync::Arc;
 use trace::{Jump, TracedRun, trace_on};
+use why_choice::explain_rule;
 
 /// How a program makes its choice.
 #[derive(Drop)]

@@ -12,8 +12,8 @@ use manifest::{AppEntry, ProgramSource};
 use printing::TextBuffer;
 use report_page::{OfferedApp, OfferedQuota};
 use rule_lang::Rule;
+use stage_rules::halting_file;
 use stage_text::{RuleText, rule_lines, rule_text};
-use staging::halting_file;
 use std::alloc::{AllocError, Global};
 
 /// The apps that are shown, and a sentence for each file that can't be read.

@@ -1,11 +1,11 @@
 //! The program `rollout`: it serves updates by a manifest's rules, and sends requests to a running
 //! server. It also replays scripts, and assembles, compiles, lists, verifies and runs single
-//! programs. `command` of the library `commands` does what the words request.
+//! programs. `command` of the library `cli_commands` does what the words request.
 #![tactic(auto)]
 
-use command_line::unreadable_words;
-use command_words::words_of;
-use commands::{Device, command};
+use cli_base::unreadable_words;
+use cli_commands::{Device, command};
+use cli_words::words_of;
 use std::process::ExitCode;
 
 fn main(rt: HostRuntime) -> ExitCode {

@@ -1,13 +1,13 @@
 //! The program `rollout-tools`: it checks, simulates and tries manifests, reports on a server's
-//! logs, and explains, traces and orders single programs. `command` of the library `tool_commands`
-//! does what the words request.
+//! logs, and explains, traces and orders single programs. `command` of the library
+//! `cli_tool_commands` does what the words request.
 #![tactic(auto)]
 
 use bounded_files::Device;
-use command_line::unreadable_words;
+use cli_base::unreadable_words;
+use cli_tool_commands::command;
+use cli_tool_words::words_of;
 use std::process::ExitCode;
-use tool_commands::command;
-use tool_words::words_of;
 
 fn main(rt: HostRuntime) -> ExitCode {
     let mut out = rt.stdout();

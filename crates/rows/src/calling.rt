@@ -5,8 +5,8 @@ use crate::logging::{Handles, Logging};
 use crate::loopback::reply_of;
 use crate::marks::{first_word, marked};
 use crate::printed::Printed;
-use command_line::{WordsFault, unreadable_words, usage};
-use commands::Device;
+use cli_base::{WordsFault, unreadable_words, usage};
+use cli_commands::Device;
 use std::alloc::Global;
 use std::fs;
 use std::io::{self, ErrorKind, Write};
@@ -61,9 +61,9 @@ where
     let disk = Device::new(&rt.rt);
     let (words, is_of_tools) = program_of(words);
     if is_of_tools {
-        tool_commands::command(&rt.rt, &disk, words, out, err)
+        cli_tool_commands::command(&rt.rt, &disk, words, out, err)
     } else {
-        commands::command(rt, &disk, words, out, err)
+        cli_commands::command(rt, &disk, words, out, err)
     }
 }
 

@@ -1,7 +1,7 @@
 //! A runtime that writes its log to files; all else it passes on. The lines of connections go to
 //! the file `connections`, all others to `log`, each without its time.
 
-use commands::LogOutput;
+use cli_commands::LogOutput;
 use std::alloc::{Allocator, Global};
 use std::fmt::Display;
 use std::fs::{File, Metadata, OpenOptions};

@@ -1,7 +1,7 @@
 -- Judged manifests may be compared.
 use Rattle.load.specs.declared.judged.JudgedManifest.{JudgedManifest}
-use Rattle.manifest_diff.specs.Opened.{AreKept}
-use Rattle.manifest_diff.specs.declared.opened.OpenedBoth.{OpenedBoth}
+use Rattle.diff_manifests.specs.Opened.{AreKept}
+use Rattle.diff_manifests.specs.declared.opened.OpenedBoth.{OpenedBoth}
 use Rattle.stage_commands.specs.Compared.{AreAllJudged}
 
 pub both_kept : (both : OpenedBoth) → AreAllJudged both.old → AreAllJudged both.new → AreKept both

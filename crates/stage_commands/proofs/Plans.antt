@@ -7,10 +7,10 @@ use Rattle.load.specs.declared.opened.CollectedManifest.{CollectedManifest}
 use Rattle.load.specs.declared.sources.AppSources.{AppSources}
 use Rattle.manifest.specs.App.{file_of}
 use Rattle.stage_folder.specs.Folders.{GivesFile, KnownFolder}
-use Rattle.staging.specs.Halts.{Halts, halting_file}
-use Rattle.staging.specs.InForce.{is_resumable, last_halt}
-use Rattle.staging.specs.Raises.{IsRaised}
-use Rattle.staging.specs.ReleaseHalts.{IsWithout}
+use Rattle.stage_rules.specs.Halts.{Halts, halting_file}
+use Rattle.stage_rules.specs.InForce.{is_resumable, last_halt}
+use Rattle.stage_rules.specs.Raises.{IsRaised}
+use Rattle.stage_rules.specs.ReleaseHalts.{IsWithout}
 use Rattle.stage_records.specs.Steps.{ReplacedFile, StagingStep}
 use Rattle.stage_servers.specs.declared.options.StageOptions.{StageOptions}
 use Rattle.stage_commands.specs.Apps.{ReplacesBy, shares_file}

@@ -7,8 +7,8 @@ use Rattle.stage_folder.specs.Folders.{KnownFolder, KnownRecords}
 use Rattle.stage_folder.specs.Recorded.{IsRecorded}
 use Rattle.stage_folder.specs.Steps.{edited_place, undone}
 use Rattle.stage_records.specs.Steps.{StagingStep}
-use Rattle.staging.specs.InForce.{app_of_any_halt}
-use Rattle.staging.specs.Lifting.{LiftsNothing}
+use Rattle.stage_rules.specs.InForce.{app_of_any_halt}
+use Rattle.stage_rules.specs.Lifting.{LiftsNothing}
 use Rattle.stage_commands.specs.Befores.{IsGathered, WasGathered}
 use Rattle.stage_commands.specs.Taken.{IsLast, as_undone}
 

@@ -8,7 +8,7 @@ use Rattle.stage_folder.specs.declared.records.RecordedSteps.{RecordedSteps}
 use Rattle.stage_folder.specs.Steps.{has_name, left_by}
 use Rattle.stage_records.specs.Steps.{ReplacedFile, StagingStep}
 use Rattle.stage_records.specs.declared.step.StepAction.TheVariants.{Put}
-use Rattle.staging.specs.Lifting.{LiftsNothing}
+use Rattle.stage_rules.specs.Lifting.{LiftsNothing}
 use Rattle.stage_commands.specs.Puts.{PlansPut}
 use Rattle.stage_servers.specs.Whole.{AreAllRead}
 use Rattle.stage_commands.specs.declared.put_files.Content.{Content}

@@ -13,7 +13,7 @@ use Rattle.stage_folder.specs.Steps.{is_change, left_by}
 use Rattle.stage_folder.specs.declared.records.RecordedSteps.{RecordedSteps}
 use Rattle.stage_records.specs.Steps.{ReplacedFile, StagingStep}
 use Rattle.stage_records.specs.declared.step.StepAction.TheVariants.{Put}
-use Rattle.staging.specs.Lifting.{LiftsNothing}
+use Rattle.stage_rules.specs.Lifting.{LiftsNothing}
 use Rattle.stage_servers.specs.declared.options.StageOptions.{StageOptions}
 use Rattle.stage_commands.specs.Compared.{IsAccepted}
 use Rattle.stage_commands.specs.Taken.{IsTaken}

@@ -4,7 +4,7 @@ use Rattle.bounded_files.specs.Files.{KnownFiles}
 use Rattle.load.specs.declared.sources.AppSources.{AppSources}
 use Rattle.manifest.specs.App.{file_of}
 use Rattle.stage_folder.specs.Folders.{GivesFile, KnownFolder, KnownRecords}
-use Rattle.staging.specs.ReleaseHalts.{IsWithout}
+use Rattle.stage_rules.specs.ReleaseHalts.{IsWithout}
 use Rattle.stage_records.specs.Steps.{ReplacedFile}
 use Rattle.stage_records.specs.declared.step.StepAction.TheVariants.{HaltRelease}
 use Rattle.stage_servers.specs.declared.options.StageOptions.{StageOptions}

@@ -10,8 +10,8 @@ use Rattle.stage_folder.specs.Folders.{KnownFolder, KnownRecords}
 use Rattle.stage_folder.specs.declared.records.RecordedSteps.{RecordedSteps}
 use Rattle.stage_records.specs.Steps.{ReplacedFile, StagingStep}
 use Rattle.stage_records.specs.declared.step.StepAction.TheVariants.{Resume}
-use Rattle.staging.specs.InForce.{is_resumable, last_halt}
-use Rattle.staging.specs.Raises.{IsRaised}
+use Rattle.stage_rules.specs.InForce.{is_resumable, last_halt}
+use Rattle.stage_rules.specs.Raises.{IsRaised}
 use Rattle.stage_commands.specs.Apps.{IsAppOf, Replaces, ReplacesBy}
 use Rattle.stage_servers.specs.Replaced.{file_named}
 use Rattle.stage_servers.specs.declared.options.StageOptions.{StageOptions}

@@ -4,8 +4,8 @@ use Rattle.bounded_files.specs.Files.{KnownFiles}
 use Rattle.load.specs.declared.sources.AppSources.{AppSources}
 use Rattle.manifest.specs.App.{file_of}
 use Rattle.stage_folder.specs.Folders.{GivesFile, KnownFolder, KnownRecords}
-use Rattle.staging.specs.Halts.{Halts, halting_file}
-use Rattle.staging.specs.Raises.{IsRaised}
+use Rattle.stage_rules.specs.Halts.{Halts, halting_file}
+use Rattle.stage_rules.specs.Raises.{IsRaised}
 use Rattle.stage_records.specs.Steps.{ReplacedFile}
 use Rattle.stage_records.specs.declared.step.StepAction.TheVariants.{Halt, Raise}
 use Rattle.stage_servers.specs.declared.options.StageOptions.{StageOptions}

@@ -1,6 +1,6 @@
 //! For whom the next manifest changes what the present one gives, with the counters of the servers.
 
-ghost use Rattle.manifest_diff.specs.Opened.{AreKept};
+ghost use Rattle.diff_manifests.specs.Opened.{AreKept};
 ghost use Rattle.stage_commands.specs.Compared.{AreAllJudged};
 
 use crate::counters::least_counters;
@@ -9,8 +9,8 @@ use crate::stop_texts::{LOSES, not_compared};
 use attrs::Elapsed;
 use bounded_files::Disk;
 use cell_assignments::{CellAssignment, read_assignments};
+use diff_manifests::{DiffOptions, DiffOutput, OpenedBoth, diff_manifests};
 use load::JudgedManifest;
-use manifest_diff::{DiffOptions, DiffOutput, OpenedBoth, diff_manifests};
 use printing::TextBuffer;
 use stage_servers::{Lines, StageCall, Stop, refused};
 use stage_text::now_of;

@@ -8,8 +8,8 @@ use bounded_files::Disk;
 use load::{AppSources, CollectedManifest};
 use stage_folder::StageFolder;
 use stage_records::StagingStep;
+use stage_rules::lifted_app;
 use stage_servers::{StageCall, Stop, collected_at};
-use staging::lifted_app;
 use std::alloc::{AllocError, Global};
 
 /// The name of the manifest in place.

@@ -3,7 +3,7 @@
 ghost use Rattle.std.specs.Prelude.{◌≡◌, IfErr, IfOk, OnOk, false, string_bytes, true};
 ghost use Rattle.bounded_files.specs.Files.{KnownFiles};
 ghost use Rattle.load.specs.Opened.{IsCollected};
-ghost use Rattle.staging.specs.ReleaseHalts.{IsWithout};
+ghost use Rattle.stage_rules.specs.ReleaseHalts.{IsWithout};
 ghost use Rattle.stage_commands.specs.Actions.{IsUnchanged};
 ghost use Rattle.stage_commands.specs.Planned.{IsReleaseHaltPlanned};
 ghost use Rattle.stage_commands.specs.ReleaseHalts.{HasHaltedRelease, PlansReleaseHalt};
@@ -20,8 +20,8 @@ use bounded_files::Disk;
 use load::{AppSources, CollectedManifest};
 use stage_folder::StageFolder;
 use stage_records::{ReplacedFile, StepAction};
+use stage_rules::{halting_file, rule_without};
 use stage_servers::{Lines, StageCall, Stop, collected_at, refusal_of};
-use staging::{halting_file, rule_without};
 use std::alloc::{AllocError, Global};
 use std::rt::Files;
 use std::str;

@@ -14,8 +14,8 @@ use load::AppSources;
 use manifest::ProgramSource;
 use stage_folder::StageFolder;
 use stage_records::{ReplacedFile, StagingStep};
+use stage_rules::last_halt;
 use stage_servers::{Stop, file_named, in_folder, refusal_of};
-use staging::last_halt;
 use std::alloc::Global;
 
 fn has_file(files: &[ReplacedFile], name: &str) -> bool

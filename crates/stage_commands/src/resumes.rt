@@ -9,7 +9,7 @@ ghost use Rattle.stage_commands.specs.Compared.{IsAcceptedWith};
 ghost use Rattle.stage_commands.specs.Planned.{IsResumePlanned};
 ghost use Rattle.stage_commands.specs.Resumes.{HasResumed, PlansResume};
 ghost use Rattle.stage_commands.specs.Taken.{LeftBy};
-ghost use Rattle.staging.specs.InForce as in_force;
+ghost use Rattle.stage_rules.specs.InForce as in_force;
 
 use crate::app_file::app_to_change;
 use crate::resume_rows::{compare_resumed, compared_bytes};
@@ -21,10 +21,10 @@ use bounded_files::Disk;
 use load::{AppSources, CollectedManifest};
 use stage_folder::StageFolder;
 use stage_records::{ReplacedFile, StagingStep, StepAction};
+use stage_rules::is_resumable;
 use stage_servers::{
     Lines, StageCall, Stop, app_named, collected_at, halted_release, read_steps, refusal_of,
 };
-use staging::is_resumable;
 use std::alloc::Global;
 use std::net::{Net, TcpStream};
 use std::rt::Files;

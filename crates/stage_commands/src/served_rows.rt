@@ -1,14 +1,14 @@
 //! For whom the next manifest changes what the servers give, which may not be what is in place.
 
 ghost use Rattle.std.specs.Prelude.{IfSome};
-ghost use Rattle.manifest_diff.specs.Opened.{AreKept};
+ghost use Rattle.diff_manifests.specs.Opened.{AreKept};
 ghost use Rattle.stage_commands.specs.Compared.{AreAllJudged};
 
 use crate::comparison::push_comparison;
 use crate::restored::judged_if;
 use bounded_files::Disk;
+use diff_manifests::OpenedBoth;
 use load::JudgedManifest;
-use manifest_diff::OpenedBoth;
 use stage_records::ReplacedFile;
 use stage_servers::{
     Lines, Serves, StageCall, Stop, Surveyed, collected_as, collected_with, push_serves,

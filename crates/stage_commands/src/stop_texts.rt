@@ -2,12 +2,12 @@
 
 // No contract says what they are: bench/outside tests them.
 
+use diff_manifests::DiffFault;
 use load::{AppSources, LoadFault};
-use manifest_diff::DiffFault;
 use printing::TextBuffer;
 use rule_lang::RuleFault;
+use stage_rules::{RaiseFault, WithoutFault};
 use stage_servers::{Stop, refusal, refusal_of};
-use staging::{RaiseFault, WithoutFault};
 use std::alloc::Global;
 
 /// Somebody may lose a release.

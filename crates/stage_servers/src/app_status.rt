@@ -8,8 +8,8 @@ use load::{AppSources, whole_file};
 use manifest::ProgramSource;
 use printing::{TextBuffer, width_of};
 use stage_records::{FileState, ReplacedFile, StagingStep};
+use stage_rules::{is_in_force, last_halt};
 use stage_text::{RuleText, push_since, rule_lines, rule_text};
-use staging::{is_in_force, last_halt};
 use std::alloc::{AllocError, Global};
 
 /// What a status is made of: the recorded steps, the apps in place, and the second by the clock.

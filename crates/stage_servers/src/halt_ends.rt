@@ -14,7 +14,7 @@ use operator_request::OperatorRequest;
 use printing::TextBuffer;
 use stage_folder::{RecordedSteps, StageFolder, recorded_steps};
 use stage_records::StageAction;
-use staging::{is_in_force, is_release_halted, may_offer, surely_offers};
+use stage_rules::{is_in_force, is_release_halted, may_offer, surely_offers};
 use std::alloc::{AllocError, Global};
 use std::net::{Net, TcpStream};
 

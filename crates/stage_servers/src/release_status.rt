@@ -6,8 +6,8 @@ use crate::app_status::Standing;
 use load::AppSources;
 use printing::TextBuffer;
 use stage_records::{StagingStep, StepAction};
+use stage_rules::known_offer;
 use stage_text::push_since;
-use staging::known_offer;
 use std::alloc::Global;
 
 // The version of this app that a step halts, unless it is undone.

@@ -1,9 +1,9 @@
 //! A counter in a line: its name, the operation and the reply.
 
 use cells::{CellEvent, CellOp, Shape};
-use explain::push_counter;
 use std::alloc::AllocError;
 use std::fmt::Write;
+use why_refused_program::push_counter;
 
 /// Writes the operation on a counter, if there was one.
 pub(crate) fn push_event(

@@ -11,8 +11,8 @@ use cells::PlainPass;
 use dry_run::{AppReasons, app_reasons, meant_app, no_request_app, unknown_app};
 use load::{JudgedApp, JudgedManifest};
 use printing::TextBuffer;
-use reasons::push_quoted;
 use std::alloc::{AllocError, Global};
+use why_choice::push_quoted;
 
 /// The lines of the apps, in order, on counters as the apps before leave them. The note at each
 /// place is that of the app there.

@@ -1,6 +1,6 @@
 use Rattle.std.proofs.Common.{◌++◌, ℕ, All, List, length, map, string_bytes}
-use Rattle.rule_space.specs.Lines.{IsLine}
-use Rattle.rule_space.specs.Scopes.{Scope}
+use Rattle.diff_space.specs.Lines.{IsLine}
+use Rattle.diff_space.specs.Scopes.{Scope}
 use Rattle.diff_text.specs.Conditions.{grant_sets}
 use Rattle.diff_text.specs.Grants.{AreGrantTexts}
 use Rattle.diff_text.proofs.grants.grants_of.Given as goal

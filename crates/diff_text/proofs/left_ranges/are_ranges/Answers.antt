@@ -1,6 +1,6 @@
 use Rattle.std.proofs.Common.{◌∙◌, ap, ap₂, List, map, sym, ℕ}
-use Rattle.rule_diff.specs.Rows.{SegmentSet}
-use Rattle.rule_space.specs.Coordinates.{Dimension}
+use Rattle.diff_rules.specs.Rows.{SegmentSet}
+use Rattle.diff_space.specs.Coordinates.{Dimension}
 use Rattle.diff_text.specs.Grants.{have_number}
 use Rattle.diff_text.specs.Tables.{agrees}
 use Rattle.diff_text.proofs.Ranges.{are_ranges}

@@ -1,5 +1,5 @@
 use Rattle.std.proofs.Common.{◌≡◌, length}
-use Rattle.rule_diff.specs.Rows.{has_segment}
+use Rattle.diff_rules.specs.Rows.{has_segment}
 use Rattle.diff_text.proofs.matching.has_segment.Given as goal
 
 -- the remaining segments decide

@@ -1,5 +1,5 @@
 use Rattle.std.proofs.Common.{◌≡◌, rules, subst, sym, All}
-use Rattle.rule_space.specs.Lines.{IsLine}
+use Rattle.diff_space.specs.Lines.{IsLine}
 use Rattle.diff_text.proofs.Texts.{lost_in, shown_same}
 use Rattle.diff_text.proofs.showing.app_rows.Goals as goal
 

@@ -1,7 +1,7 @@
 use Rattle.std.proofs.Common.{◌∙◌, IfSome, List, Option, Vec, ap, map, string_bytes, subst, sym}
 use Rattle.std.specs.Prelude.{String}
 use Rattle.std.specs.declared.alloc.Global.{Global}
-use Rattle.rule_diff.specs.Rows.{Row, SegmentSet}
+use Rattle.diff_rules.specs.Rows.{Row, SegmentSet}
 use Rattle.diff_text.specs.Conditions.{ReadBack, grant_sets, tested_sets}
 use Rattle.diff_text.specs.Grants.{AreGrantTexts}
 use Rattle.diff_text.specs.Shown.{Sources}

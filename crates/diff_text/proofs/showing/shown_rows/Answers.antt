@@ -1,5 +1,5 @@
 use Rattle.std.proofs.Common.{IfSome, Option, arith, subst}
-use Rattle.rule_space.proofs.Planned.{ends_on, steps_on}
+use Rattle.diff_space.proofs.Planned.{ends_on, steps_on}
 use Rattle.diff_text.specs.Shown.{IsShownAs, ShownRow}
 use Rattle.diff_text.proofs.showing.shown_rows.Goals as goal
 

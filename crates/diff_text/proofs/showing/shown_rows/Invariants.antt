@@ -1,7 +1,7 @@
 use Rattle.std.proofs.Common.{◌++◌, All, List, length}
 use Rattle.std.specs.List.{AllZip}
-use Rattle.rule_space.specs.Lines.{IsLine}
-use Rattle.rule_space.specs.Scopes.{Scope}
+use Rattle.diff_space.specs.Lines.{IsLine}
+use Rattle.diff_space.specs.Scopes.{Scope}
 use Rattle.diff_text.specs.Shown.{IsShownAs, ShownRow}
 use Rattle.diff_text.proofs.showing.shown_rows.Given as goal
 

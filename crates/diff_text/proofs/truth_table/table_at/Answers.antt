@@ -1,7 +1,7 @@
 use Rattle.std.proofs.Common.{◌∙◌, ap, sym}
 use Rattle.std.specs.Prelude.{Some}
 use Rattle.std.proofs.lemmas.Option.{slice_get-get_or}
-use Rattle.rule_space.specs.Coordinates.{Dimension}
+use Rattle.diff_space.specs.Coordinates.{Dimension}
 use Rattle.diff_text.specs.Tables.{truths}
 use Rattle.diff_text.proofs.Tabled.{test_table}
 use Rattle.diff_text.proofs.truth_table.table_at.Goals as goal

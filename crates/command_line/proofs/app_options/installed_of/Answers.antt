@@ -1,6 +1,0 @@
-use Rattle.std.proofs.Common.{◌∙◌, ap}
-use Rattle.command_line.specs.AppOptions.{install_day}
-use Rattle.command_line.proofs.app_options.installed_of.Goals as goal
-
-pub returns : goal.returns
-returns c = c.install_day.ensures ∙ ap install_day c.optional_text.ensures

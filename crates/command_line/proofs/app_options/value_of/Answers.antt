@@ -1,6 +1,0 @@
-use Rattle.command_line.proofs.Attributes.{stripped}
-use Rattle.command_line.proofs.app_options.value_of.Goals as goal
-
-pub returns : goal.returns
-returns c =
-    stripped c.args.text.now c.args.name.now c.strip_prefix.result c.strip_prefix.ensures.cases

@@ -1,6 +1,0 @@
-use Rattle.std.proofs.Common.{◌∙◌, ap}
-use Rattle.command_line.specs.Seconds.{second_by}
-use Rattle.command_line.proofs.second.second_of.Goals as goal
-
-pub returns : goal.returns
-returns c = c.second_by.ensures ∙ ap second_by c.optional_text.ensures

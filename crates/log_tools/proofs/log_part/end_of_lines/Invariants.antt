@@ -1,4 +1,0 @@
-use Rattle.log_tools.proofs.log_part.end_of_lines.Given as goal
-
-abbrev pub decreases-loop-end : goal.decreases-loop-end
-decreases-loop-end g l = l.end

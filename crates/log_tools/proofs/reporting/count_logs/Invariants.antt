@@ -1,6 +1,0 @@
-use Rattle.log_tools.specs.Reports.{CountsLogs}
-use Rattle.log_tools.proofs.reporting.count_logs.Given as goal
-
--- the lines of the logs so far are counted
-abbrev pub invariant-loop-path : goal.invariant-loop-path
-invariant-loop-path g l = CountsLogs l.window l.path-index l.fn.report l.report

@@ -1,8 +1,0 @@
-use Rattle.std.proofs.Common.{◌≡◌, ◌++◌, drop}
-use Rattle.manifest_diff.specs.Counters.{are_declared}
-use Rattle.manifest_diff.proofs.counters.are_declared.Given as goal
-
-abbrev pub invariant-loop-cell : goal.invariant-loop-cell
-invariant-loop-cell l =
-    are_declared (l.old ++ l.new) (drop l.cell-index l.cells)
-    ≡ are_declared (l.old ++ l.new) l.cells

@@ -1,8 +1,0 @@
-use Rattle.std.proofs.Common.{◌≡◌, take, map}
-use Rattle.serde_json.specs.View.{view}
-use Rattle.manifest_diff.specs.Objects.{array_object}
-use Rattle.manifest_diff.proofs.objects.array_objects.Given as goal
-
-abbrev pub invariant-loop-change : goal.invariant-loop-change
-invariant-loop-change l =
-    map view l.values.items ≡ map array_object (take l.change-index l.changes)

@@ -1,5 +1,0 @@
-use Rattle.reasons.proofs.Conditions.{condition_is_so}
-use Rattle.reasons.proofs.laws.conditions_are_so.Goals as goal
-
-pub returns : goal.returns
-returns c = condition_is_so

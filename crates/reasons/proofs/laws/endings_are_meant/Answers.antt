@@ -1,5 +1,0 @@
-use Rattle.reasons.proofs.Meant.{ending_is_meant}
-use Rattle.reasons.proofs.laws.endings_are_meant.Goals as goal
-
-pub returns : goal.returns
-returns c = ending_is_meant

@@ -1,5 +1,0 @@
-use Rattle.reasons.proofs.InQuotes.{quotes_end_texts}
-use Rattle.reasons.proofs.laws.quotes_end_texts.Goals as goal
-
-pub returns : goal.returns
-returns c = quotes_end_texts

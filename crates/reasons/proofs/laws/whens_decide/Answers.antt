@@ -1,5 +1,0 @@
-use Rattle.reasons.proofs.Conditions.{when_is_so}
-use Rattle.reasons.proofs.laws.whens_decide.Goals as goal
-
-pub returns : goal.returns
-returns c = when_is_so

@@ -1,5 +1,0 @@
-use Rattle.std.proofs.Common.{length}
-use Rattle.rule_diagnosis.proofs.trial.«+add_samples».Given as goal
-
-abbrev pub decreases-add_samples : goal.decreases-add_samples
-decreases-add_samples l = length l.among.now

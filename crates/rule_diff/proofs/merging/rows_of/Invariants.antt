@@ -1,8 +1,0 @@
-use Rattle.std.proofs.Common.{◌≤◌, length}
-use Rattle.rule_diff.proofs.merging.rows_of.Given as goal
-
-abbrev pub invariant-loop-k : goal.invariant-loop-k
-invariant-loop-k l = l.k ≤ length l.dimensions
-
-abbrev pub decreases-loop-k : goal.decreases-loop-k
-decreases-loop-k l = l.k

@@ -1,5 +1,0 @@
-use Rattle.rule_space.proofs.Grown.{pushed}
-use Rattle.rule_space.proofs.group.add_tuple.Goals as goal
-
-pub returns : goal.returns
-returns c = rw c.in_ok-push.ensures.items (pushed c.args.tuples.now.items _)

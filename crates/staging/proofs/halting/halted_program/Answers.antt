@@ -1,5 +1,0 @@
-use Rattle.staging.proofs.HaltedProgram.{program_halts}
-use Rattle.staging.proofs.halting.halted_program.Goals as goal
-
-pub returns-clause-halts : goal.returns-clause-halts
-returns-clause-halts c = λ file. program_halts file

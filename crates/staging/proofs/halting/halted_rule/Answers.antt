@@ -1,9 +1,0 @@
-use Rattle.std.proofs.Common.{subst, sym}
-use Rattle.manifest.specs.declared.app.ProgramSource.TheVariants.{Rule}
-use Rattle.staging.specs.Halts.{Halts}
-use Rattle.staging.proofs.HaltedRule.{rule_halts}
-use Rattle.staging.proofs.halting.halted_rule.Goals as goal
-
-pub returns-clause-halts : goal.returns-clause-halts
-returns-clause-halts c = λ file.
-    subst (Halts (Rule file)) (sym c.as_bytes.ensures.value) (rule_halts c.one_verdict.ensures file)
