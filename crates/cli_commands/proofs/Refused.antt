@@ -5,7 +5,7 @@ use Rattle.bounded_files.specs.Files.{KnownFiles}
 use Rattle.cells.specs.Events.{AreCells}
 use Rattle.cli_words.specs.declared.request.ServeArgs.{ServeArgs}
 use Rattle.cli_commands.specs.Ready.{AreOfFile, IsRefused}
-use Rattle.cli_commands.specs.declared.serve_fault.ServeFault.TheVariants.{Serving}
+use Rattle.cli_commands.specs.declared.serve_fault.ServeRefusal.TheVariants.{Serving}
 use Rattle.server_counters.specs.declared.counters.Counters.{Counters}
 use Rattle.serving.specs.Manifests.{RefusesToServe}
 use Rattle.serving.specs.declared.serving_fault.ServingFault.{ServingFault}

@@ -5,8 +5,8 @@ use Rattle.bounded_files.specs.Files.{KnownFiles}
 use Rattle.cells.specs.declared.array.CellArray.{CellArray}
 use Rattle.cells.specs.Events.{AreCells, AreZeros}
 use Rattle.cli_words.specs.declared.request.ServeArgs.{ServeArgs}
-use Rattle.cli_commands.specs.declared.serve_fault.ServeFault.{ServeFault}
-use Rattle.cli_commands.specs.declared.serve_fault.ServeFault.TheVariants as fault
+use Rattle.cli_commands.specs.declared.serve_fault.ServeRefusal.{ServeRefusal}
+use Rattle.cli_commands.specs.declared.serve_fault.ServeRefusal.TheVariants as fault
 use Rattle.load.specs.Loaded.{IsLoadedFrom}
 use Rattle.load.specs.Made.{IsMadeFrom}
 use Rattle.server_counters.specs.declared.counters.Counters.{Counters}
@@ -49,7 +49,7 @@ module _ (known : KnownFiles) (args : ServeArgs) (counters : Option Counters) wh
       × (IsStaffFault fault ⊎ RefusesToServe known args.manifest.now (declared_by counters) fault)
 
 -- why no server is ready: the file of its counters is refused, or else the server with them
-abbrev pub IsRefused : KnownFiles → ServeArgs → ServeFault → Type 0
+abbrev pub IsRefused : KnownFiles → ServeArgs → ServeRefusal → Type 0
 IsRefused known args (fault.Counters refused) = IsSome args.counters
 IsRefused known args (fault.Serving refused) =
     (c : Option Counters) × IsStartRefusal known args c refused

@@ -1,7 +1,7 @@
 //! The second line of a refused start, with `--verbose`: the path or the port that it is about, and
 //! why.
 
-use crate::serve_fault::ServeFault;
+use crate::serve_fault::ServeRefusal;
 use bounded_files::Disk;
 use cli_words::ServeArgs;
 use counters_file::CountersFault;
@@ -20,7 +20,7 @@ pub fn print_details<R, D, E>(
     rt: &R,
     disk: &D,
     args: &ServeArgs<'_>,
-    fault: &ServeFault,
+    fault: &ServeRefusal,
     err: &mut E,
 )
 where
@@ -29,15 +29,15 @@ where
     E: Write,
 {
     let _printed = match fault {
-        ServeFault::Counters(fault) => print_counters_fault(rt, args, fault, err),
-        ServeFault::Serving(ServingFault::Bind) => {
+        ServeRefusal::Counters(fault) => print_counters_fault(rt, args, fault, err),
+        ServeRefusal::Serving(ServingFault::Bind) => {
             print_bind_fault(rt, args.plan.port, args.plan.operator, err)
         }
-        ServeFault::Serving(ServingFault::Manifest(_)) => {
+        ServeRefusal::Serving(ServingFault::Manifest(_)) => {
             print_unread_manifest(rt, disk, args.manifest, err)
                 || print_cause(fault.cause(), args.manifest, err)
         }
-        ServeFault::Serving(_) => false,
+        ServeRefusal::Serving(_) => false,
     };
 }
 

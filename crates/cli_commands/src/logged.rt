@@ -8,9 +8,9 @@ ghost use Rattle.serving.specs.Staffed.{IsStaffFault, IsEndFault};
 ghost use Rattle.workers.specs.Texts.{serving_line};
 
 use crate::ready::KeptServer;
-use crate::serve_fault::ServeFault;
+use crate::serve_fault::ServeRefusal;
 use bounded_files::Disk;
-use cli_words::{Plan, ServeArgs};
+use cli_words::{ServeArgs, ServePlan};
 use counters_file::DeviceFile;
 use server_counters::{Counters, Found};
 use server_log::{
@@ -75,7 +75,7 @@ where
 fn serve_by<'a, R, D, O>(
     rt: &R,
     disk: &D,
-    plan: &Plan,
+    plan: &ServePlan,
     ready: KeptServer<'a, R>,
     log: Option<&LogQueue>,
     out: &mut O,
@@ -110,7 +110,7 @@ where
 }
 
 // How connections are served by the plan.
-fn service_of<'a>(plan: &Plan, log: Option<&'a LogQueue>) -> ServeOptions<'a>
+fn service_of<'a>(plan: &ServePlan, log: Option<&'a LogQueue>) -> ServeOptions<'a>
     ensures timeout { as_nanos result.timeout ≡ plan.now.timeout * 1000000000 }
     ensures log { result.log ≡ log.entry }
 {
@@ -162,7 +162,7 @@ where
 /// Logs that a server doesn't start, and why, if a log was requested. The line is lost if an
 /// allocation fails.
 // open: that the line is of these arguments and this fault: tests.
-pub fn note_refusal<R>(rt: &R, args: &ServeArgs<'_>, fault: &ServeFault)
+pub fn note_refusal<R>(rt: &R, args: &ServeArgs<'_>, fault: &ServeRefusal)
 where
     R: AllocGlobal + Clock + LogOutput,
 {

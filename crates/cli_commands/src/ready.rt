@@ -5,7 +5,7 @@ ghost use Rattle.std.proofs.Props.{props};
 ghost use Rattle.cli_commands.specs.Ready.{IsReady, IsRefused, Opens};
 ghost use Rattle.server_counters.specs.declared.counters.Counters.{Counters};
 
-use crate::serve_fault::ServeFault;
+use crate::serve_fault::ServeRefusal;
 use bounded_files::{Disk, ResourceFault};
 use cli_words::ServeArgs;
 use counter_store::CounterStore;
@@ -49,7 +49,7 @@ pub fn ready_server<'a, R, D>(
     rt: &'a R,
     disk: &D,
     args: &ServeArgs<'_>,
-) -> Result<KeptServer<'a, R>, ServeFault>
+) -> Result<KeptServer<'a, R>, ServeRefusal>
 where
     R: Files<File = File> + AllocGlobal + Clock + Eprint,
     R: Net<Listener = TcpListener, Stream = TcpStream>,
@@ -62,7 +62,7 @@ where
         Some(path) => match server_with_file(rt, disk, args, path) {
             Ok(WithFile { server, file }) => match with_store(rt.alloc(), server, file) {
                 Ok(ready) => Ok(ready),
-                Err(fault) => Err(ServeFault::Counters(fault)),
+                Err(fault) => Err(ServeRefusal::Counters(fault)),
             },
             Err(fault) => Err(fault),
         },
@@ -72,7 +72,7 @@ where
                 found: None,
                 store: None,
             }),
-            Err(fault) => Err(ServeFault::Serving(fault)),
+            Err(fault) => Err(ServeRefusal::Serving(fault)),
         },
     }
 }
@@ -85,7 +85,7 @@ where
     requires { args.now.counters ≡ None }
     ensures ready { IfOk result (IsReady (D.known disk.now) args.now None) }
     ensures fault { IfErr result
-        (λ fault. IsRefused (D.known disk.now) args.now (ServeFault.Serving fault)) }
+        (λ fault. IsRefused (D.known disk.now) args.now (ServeRefusal.Serving fault)) }
 {
     let Ok(counters) = Counters::none(rt.alloc()) else {
         return Err(ServingFault::Resource(ResourceFault::Memory));
@@ -109,7 +109,7 @@ fn server_with_file<'a, R, D>(
     disk: &D,
     args: &ServeArgs<'_>,
     path: &str,
-) -> Result<WithFile<'a, R>, ServeFault>
+) -> Result<WithFile<'a, R>, ServeRefusal>
 where
     R: Files<File = File> + AllocGlobal + Clock + Eprint,
     R: Net<Listener = TcpListener, Stream = TcpStream>,
@@ -121,7 +121,7 @@ where
 {
     let Opening { file, counters } = match open_file(rt, path, args.plan.wait.is_some()) {
         Ok(opening) => opening,
-        Err(fault) => return Err(ServeFault::Counters(fault)),
+        Err(fault) => return Err(ServeRefusal::Counters(fault)),
     };
     match prepare(
         rt,
@@ -137,7 +137,7 @@ where
         },
         Err(fault) => {
             drop(file);
-            Err(ServeFault::Serving(fault))
+            Err(ServeRefusal::Serving(fault))
         }
     }
 }
@@ -151,7 +151,7 @@ fn after_another<'a, R, D>(
     args: &ServeArgs<'_>,
     path: &str,
     server: Server,
-) -> Result<WithFile<'a, R>, ServeFault>
+) -> Result<WithFile<'a, R>, ServeRefusal>
 where
     R: Files<File = File> + AllocGlobal + Clock + Eprint,
     D: Disk,
@@ -166,14 +166,14 @@ where
         Ok(opened) => opened,
         Err(fault) => {
             drop(server);
-            return Err(ServeFault::Counters(fault));
+            return Err(ServeRefusal::Counters(fault));
         }
     };
     match server.opened_with(rt, disk, counters) {
         Ok(server) => Ok(WithFile { server, file }),
         Err(fault) => {
             drop(file);
-            Err(ServeFault::Serving(fault))
+            Err(ServeRefusal::Serving(fault))
         }
     }
 }

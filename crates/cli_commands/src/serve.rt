@@ -8,7 +8,7 @@ ghost use Rattle.workers.specs.Texts.{serving_line};
 use crate::details::print_details;
 use crate::logged::{note_refusal, serve_until_stopped};
 use crate::ready::{KeptServer, ready_server};
-use crate::serve_fault::ServeFault;
+use crate::serve_fault::ServeRefusal;
 use bounded_files::Disk;
 use cli_base::refused;
 use cli_words::ServeArgs;
@@ -69,7 +69,7 @@ fn make_and_serve<R, D, O>(
     disk: &D,
     args: &ServeArgs<'_>,
     out: &mut O,
-) -> Result<(), ServeFault>
+) -> Result<(), ServeRefusal>
 where
     R: Files<File = File> + Threads + Wait + AllocGlobal + Clock + LogOutput,
     R: Copy + Drop + Send + Sync + 'static,
@@ -101,7 +101,7 @@ fn serve_ready<R, D, O>(
     args: &ServeArgs<'_>,
     ready: KeptServer<'_, R>,
     out: &mut O,
-) -> Result<(), ServeFault>
+) -> Result<(), ServeRefusal>
 where
     R: Files<File = File> + Threads + Wait + AllocGlobal + Clock + LogOutput,
     R: Copy + Drop + Send + Sync + 'static,
@@ -118,7 +118,7 @@ where
     let _open = ready.server.ports().operator_handle();
     match serve_until_stopped(rt, disk, args, ready, out) {
         Ok((counters, file)) => write_left(rt, args, file, counters),
-        Err(fault) => Err(ServeFault::Serving(fault)),
+        Err(fault) => Err(ServeRefusal::Serving(fault)),
     }
 }
 
@@ -129,7 +129,7 @@ fn write_left<R, F>(
     args: &ServeArgs<'_>,
     file: Option<F>,
     counters: Counters,
-) -> Result<(), ServeFault>
+) -> Result<(), ServeRefusal>
 where
     R: AllocGlobal + Clock + LogOutput,
     F: KeptFile + Drop,
@@ -146,7 +146,7 @@ where
             if args.plan.log {
                 write_counters(rt, args.plan.port, &fault);
             }
-            Err(ServeFault::Counters(fault))
+            Err(ServeRefusal::Counters(fault))
         }
     }
 }

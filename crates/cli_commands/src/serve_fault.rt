@@ -9,32 +9,32 @@ use std::fmt;
 
 /// The reason, printed after `refused `.
 #[derive(Drop)]
-pub enum ServeFault {
+pub enum ServeRefusal {
     /// K1 to K4, B4: the file of a server's counters can't be opened or written.
     Counters(CountersFault),
     /// A server can't be made, or can't serve.
     Serving(ServingFault),
 }
 
-impl ServeFault {
+impl ServeRefusal {
     /// The cause that a server's log adds to the fault's text, if there is one.
     pub fn cause(&self) -> Option<&str>
         ensures { option_copied result ≡ fault_cause self.now }
     {
         match self {
-            ServeFault::Counters(_) => None,
-            ServeFault::Serving(fault) => fault.cause(),
+            ServeRefusal::Counters(_) => None,
+            ServeRefusal::Serving(fault) => fault.cause(),
         }
     }
 }
 
-impl fmt::Display for ServeFault {
+impl fmt::Display for ServeRefusal {
     ghost output = { λ fault. Some (fault_text fault) };
 
     fn fmt<W: fmt::Write>(&self, f: &mut fmt::Formatter<W>) -> fmt::Result {
         match self {
-            ServeFault::Counters(fault) => write!(f, "{fault}"),
-            ServeFault::Serving(fault) => write!(f, "{fault}"),
+            ServeRefusal::Counters(fault) => write!(f, "{fault}"),
+            ServeRefusal::Serving(fault) => write!(f, "{fault}"),
         }
     }
 }

@@ -15,7 +15,7 @@ use attrs::Moment;
 use bounded_files::{Disk, ResourceFault};
 use cell_assignments::read_assignments;
 use cli_tool_words::{AskArgs, ToolCommand};
-use dry_run::{Opened, open_files, reply_on_counters};
+use dry_run::{OpenedFiles, open_files, reply_on_counters};
 use operator::{RequestFault, ask_server};
 use operator_request::OperatorRequest;
 use std::net::{Net, TcpStream};
@@ -65,7 +65,7 @@ where
 }
 
 // The body of the reply, from the opened files.
-fn reply_to<R>(rt: &R, opened: &Opened, args: &AskArgs<'_>) -> Result<Vec<u8>, Fault>
+fn reply_to<R>(rt: &R, opened: &OpenedFiles, args: &AskArgs<'_>) -> Result<Vec<u8>, Fault>
 where
     R: AllocGlobal + Clock + Net<Stream = TcpStream>,
     ensures reply { IfOk result (λ body. specs.IsReplyBy opened.now.rules opened.now.directory

@@ -8,7 +8,7 @@ use Rattle.cli_base.specs.declared.run_args.RunArgs.{RunArgs}
 use Rattle.operator_request.specs.declared.request.OperatorRequest.TheVariants as sent
 use Rattle.cli_words.specs.declared.request.Command.{Command}
 use Rattle.cli_words.specs.declared.request.Command.TheVariants as command
-use Rattle.cli_words.specs.declared.request.Plan.{Plan}
+use Rattle.cli_words.specs.declared.request.ServePlan.{ServePlan}
 use Rattle.cli_words.specs.declared.task.Task.{Task}
 use Rattle.cli_words.specs.declared.task.Task.TheVariants as task
 use Rattle.cli_words.specs.declared.verb.Verb.{Verb}
@@ -19,7 +19,7 @@ abbrev pub HasOptional : Text → List Row → Option ℕ → Type 0
 HasOptional id rows number = IfSome number (HasShort id rows) × IfNone number (LacksShort id rows)
 
 -- the options of `serve`
-pub record HasPlan (rows : List Row) (plan : Plan) : Type 0 where
+pub record HasPlan (rows : List Row) (plan : ServePlan) : Type 0 where
   pub port : HasShort (codes "port") rows plan.port
   pub operator : HasShort (codes "operator") rows plan.operator
   pub workers : HasShort (codes "workers") rows plan.workers
@@ -28,7 +28,7 @@ pub record HasPlan (rows : List Row) (plan : Plan) : Type 0 where
   pub log : HasFlag (codes "log") rows plan.log
 
 abbrev pub LacksPlan : List Row → Type 0
-LacksPlan rows = (plan : Plan) → ¬ HasPlan rows plan
+LacksPlan rows = (plan : ServePlan) → ¬ HasPlan rows plan
 
 -- `run`; with `--trace` it makes no command
 pub record HasUntracedRun (rows : List Row) (run : RunArgs) : Type 0 where

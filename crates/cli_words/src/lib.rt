@@ -21,7 +21,7 @@ mod verb;
 mod words;
 
 pub use environment::words_of;
-pub use request::{Command, Plan, ServeArgs};
+pub use request::{Command, ServeArgs, ServePlan};
 pub use rows::command_rows;
 pub use task::Task;
 pub use words::read_words;

@@ -19,14 +19,14 @@ pub enum Command<'a> {
 pub struct ServeArgs<'a> {
     pub manifest: &'a str,
     pub counters: Option<&'a str>,
-    pub plan: Plan,
+    pub plan: ServePlan,
 }
 
 /// How a server serves: its two ports, the number of its workers, the time limit of a connection in
 /// seconds, how many seconds it waits for the file of its counters, and whether it logs each
 /// connection.
 #[derive(Clone, Copy)]
-pub struct Plan {
+pub struct ServePlan {
     pub port: u16,
     pub operator: u16,
     pub workers: u16,

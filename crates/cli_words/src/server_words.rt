@@ -5,7 +5,7 @@ ghost use Rattle.clap.specs.Words.{Row, found_of, rows_of};
 ghost use Rattle.cli_base.specs.Values.{HasFlag, HasShort, OnWrong};
 ghost use Rattle.cli_words.specs.Words.{HasPlan, LacksPlan, VerbMakes, VerbMakesNone};
 
-use crate::request::{Command, Plan, ServeArgs};
+use crate::request::{Command, ServeArgs, ServePlan};
 use crate::task::Task;
 use crate::verb::Verb;
 use clap::ArgMatches;
@@ -39,7 +39,7 @@ pub fn read_serve<'a>(found: &ArgMatches<'a>) -> Result<Command<'a>, ArgsError>
 }
 
 // How a server is to serve, by the options.
-fn plan_of(found: &ArgMatches<'_>) -> Result<Plan, ArgsError>
+fn plan_of(found: &ArgMatches<'_>) -> Result<ServePlan, ArgsError>
     ensures given { IfOk result (HasPlan (rows_of (found_of found.now))) }
     ensures lacking { OnErr result (LacksPlan (rows_of (found_of found.now))) }
 {
@@ -51,7 +51,7 @@ fn plan_of(found: &ArgMatches<'_>) -> Result<Plan, ArgsError>
     if workers < 1 || workers > 64 {
         return Err(ArgsError::Wrong(ArgumentFault::Missing));
     }
-    Ok(Plan {
+    Ok(ServePlan {
         port,
         operator,
         workers,

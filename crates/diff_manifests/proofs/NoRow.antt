@@ -6,7 +6,7 @@ use Rattle.std.proofs.lemmas.Bool.{both_ways}
 use Rattle.std.proofs.lemmas.List.Folds.{Any-from_list_any, list_any_at}
 use Rattle.attrs.specs.Attributes.{Attributes}
 use Rattle.diff_rules.specs.Replies.{RunsAreInStates}
-use Rattle.diff_rules.specs.Rows.{Row, row_agrees}
+use Rattle.diff_rules.specs.Rows.{DiffRow, row_agrees}
 use Rattle.diff_space.specs.Coordinates.{place_of}
 use Rattle.diff_space.specs.Machines.{Side, State, gets}
 use Rattle.diff_space.specs.Scopes.{IsWithin, Scope}
@@ -43,18 +43,19 @@ given law x side is a content run =
 
 -- ---- rows
 
-none : (p : Row → Bool) (rows : List Row) → list_any p rows ≡ false → (row : Row)
+none : (p : DiffRow → Bool) (rows : List DiffRow) → list_any p rows ≡ false → (row : DiffRow)
     → Contains rows row → p row ≡ true → ⊥
 none p rows fails row there passes =
     both_ways (list_any p rows) fails
     (list_any_at p rows there.0 row there.1 (ap p there.2 ∙ passes))
 
 -- what a run of a side gives is said by a row, or the other side gives it in the state
-module _ (x : Scope) (space : Space) (rows : List Row) (side other : Side) (row_value : Row → ℕ)
+module _ (x : Scope) (space : Space) (rows : List DiffRow) (side other : Side)
+    (row_value : DiffRow → ℕ)
     (complete : (a : Attributes) (g : State) → IsWithin x a g
-    → ((row : Row) → Contains rows row → HasMachine space row a g → ⊥)
+    → ((row : DiffRow) → Contains rows row → HasMachine space row a g → ⊥)
     → gets side a g ≡ gets other a g)
-    (says : (a : Attributes) (g : State) → IsWithin x a g → (row : Row) → Contains rows row
+    (says : (a : Attributes) (g : State) → IsWithin x a g → (row : DiffRow) → Contains rows row
     → HasMachine space row a g → gets side a g ≡ row_value row) where
   is_row_value : (a : Attributes) (g : State) (content : ℕ) → IsWithin x a g → gets side a g
       ≡ content

@@ -7,8 +7,8 @@ use Rattle.diff_text.specs.Shown.{AreShown, Sources}
 use Rattle.diff_text.specs.declared.shown.AppRows.{AppRows}
 use Rattle.load.specs.declared.judged.JudgedApp.{JudgedApp}
 use Rattle.releases.specs.Release.{Release}
-use Rattle.diff_rules.specs.Rows.{IsDiff, Row}
-use Rattle.diff_rules.specs.declared.contents.Contents.{Contents}
+use Rattle.diff_rules.specs.Rows.{IsDiff, DiffRow}
+use Rattle.diff_rules.specs.declared.contents.ContentNumbers.{ContentNumbers}
 use Rattle.rule_lang.specs.Fits.{fits}
 use Rattle.rule_lang.specs.declared.rule.Statement.{Statement}
 use Rattle.diff_space.specs.Lines.{IsLine}
@@ -62,7 +62,7 @@ sources all old_contents new_contents old_arrays new_arrays = record {
   new_arrays = new_arrays;
 }
 
-sources_are : (old new : Option JudgedApp) (releases others : List Release) (c : Contents)
+sources_are : (old new : Option JudgedApp) (releases others : List Release) (c : ContentNumbers)
     (arrays more : List CellArray) → releases ≡ releases_or_none old
     → others ≡ releases_or_none new → HasContents old new c → arrays ≡ arrays_or_none old
     → more ≡ arrays_or_none new
@@ -81,7 +81,7 @@ sources_are old new releases others c arrays more r s has a b =
     (arrays_or_none old) xs) b
 
 shows_rows : (x : Scope) (old new : Option JudgedApp) (old_side new_side : Side)
-    (space : Space) (rows : List Row) (releases others : List Release) (c : Contents)
+    (space : Space) (rows : List DiffRow) (releases others : List Release) (c : ContentNumbers)
     (arrays more : List CellArray) (shown : AppRows)
     → IsSideBy (releases_in old new) old old_side → IsSideBy (releases_in old new) new new_side
     → IsDiff x old_side new_side space rows → releases ≡ releases_or_none old
@@ -107,7 +107,7 @@ shows_rows x old new old_side new_side space rows releases others c arrays more 
 
 -- and none, if a condition isn't shown
 pub shows_rows_if_any : (x : Scope) (old new : Option JudgedApp) (old_side new_side : Side)
-    (space : Space) (rows : List Row) (releases others : List Release) (c : Contents)
+    (space : Space) (rows : List DiffRow) (releases others : List Release) (c : ContentNumbers)
     (arrays more : List CellArray) (shown : Option AppRows)
     → IsSideBy (releases_in old new) old old_side → IsSideBy (releases_in old new) new new_side
     → IsDiff x old_side new_side space rows → releases ≡ releases_or_none old

@@ -15,7 +15,7 @@ use Rattle.manifest.specs.declared.app.ProgramSource.{ProgramSource}
 use Rattle.manifest.specs.declared.app.ProgramSource.TheVariants as source
 use Rattle.load.specs.declared.judged.JudgedApp.{JudgedApp}
 use Rattle.releases.specs.Release.{Release}
-use Rattle.diff_rules.specs.declared.contents.Contents.{Contents}
+use Rattle.diff_rules.specs.declared.contents.ContentNumbers.{ContentNumbers}
 use Rattle.rule_lang.specs.Parts.{OrFault}
 use Rattle.rule_lang.specs.Verdicts.{RuleHasOneVerdict}
 use Rattle.rule_lang.specs.declared.rule.Statement.{Statement}
@@ -89,7 +89,7 @@ side_of_rule : (all : List Release) (app : JudgedApp) (rule : List Statement)
 side_of_rule all app rule has =
     ap (λ (r : Option (List Statement)). option_map (side_with all app) r) has
 
-pub same_rule : (old new : JudgedApp) (c : Contents) → HasContents (Some old) (Some new) c
+pub same_rule : (old new : JudgedApp) (c : ContentNumbers) → HasContents (Some old) (Some new) c
     → c.old.items ≡ c.new.items → HasSameRule old new → IsSameApp old new
 same_rule old new c has same is =
     let all = releases_in (Some old) (Some new) in
@@ -100,7 +100,7 @@ same_rule old new c has same is =
     ∙ ap (λ (s : AppShape). Some (parts s is.rule (contents_in all (Some new)))) (sym is.shape_is)
     ∙ ap (λ (l : List ℕ). Some (parts old.program.shape is.rule l)) contents)
 
-pub same_program : (old new : JudgedApp) (c : Contents) → HasContents (Some old) (Some new) c
+pub same_program : (old new : JudgedApp) (c : ContentNumbers) → HasContents (Some old) (Some new) c
     → IsFlow old.program.code → IsFlow new.program.code
     → HasOneVerdict (program_bytes old.program.code)
     → program_bytes old.program.code ≡ program_bytes new.program.code

@@ -4,7 +4,7 @@ use Rattle.std.specs.Prelude.{Option, Some, None, option_map}
 use Rattle.load.specs.declared.judged.JudgedApp.{JudgedApp}
 use Rattle.releases.specs.Release.{Release}
 use Rattle.diff_rules.specs.Contents.{content_number}
-use Rattle.diff_rules.specs.declared.contents.Contents.{Contents}
+use Rattle.diff_rules.specs.declared.contents.ContentNumbers.{ContentNumbers}
 use Rattle.rule_lang.specs.declared.rule.Statement.{Statement}
 use Rattle.diff_space.specs.Machines.{Side}
 
@@ -23,7 +23,7 @@ releases_in old new = releases_or_none old ++ releases_or_none new
 abbrev pub contents_in : List Release → Option JudgedApp → List ℕ
 contents_in releases app = map (content_number releases) (releases_or_none app)
 
-pub record HasContents (old new : Option JudgedApp) (c : Contents) : Type 0 where
+pub record HasContents (old new : Option JudgedApp) (c : ContentNumbers) : Type 0 where
   pub old_are : c.old.items ≡ contents_in (releases_in old new) old
   pub new_are : c.new.items ≡ contents_in (releases_in old new) new
 

@@ -9,7 +9,7 @@ use Rattle.cells.specs.Arrays.{AppShape, IsShape}
 use Rattle.cells.specs.declared.event.CellEvent.{CellEvent}
 use Rattle.load.specs.declared.judged.JudgedApp.{JudgedApp}
 use Rattle.diff_rules.specs.Replies.{GrantsAlike, RepliesAreFrom, RepliesRise}
-use Rattle.diff_rules.specs.Rows.{AreApart, AreComplete, AreTrue, Row, row_agrees}
+use Rattle.diff_rules.specs.Rows.{AreApart, AreComplete, AreTrue, DiffRow, row_agrees}
 use Rattle.diff_space.specs.Coordinates.{place_of}
 use Rattle.rule_lang.specs.Meaning.{HasTrace, behaviour}
 use Rattle.diff_space.specs.declared.bounds.CellBound.{CellBound}
@@ -74,21 +74,21 @@ pub record GivesAlike (x : Scope) (side : Side) (a : Attributes) (content : ℕ)
   pub alike : GrantsAlike run.shape run.events state
 
 -- the row has the machine in the state
-abbrev pub HasMachine : Space → Row → Attributes → State → Type 0
+abbrev pub HasMachine : Space → DiffRow → Attributes → State → Type 0
 HasMachine space row a g = row_agrees row (place_of space.dimensions a g) ≡ true
 
 -- the content is what a row with the machine in the state says, or what the other manifest also
 -- gives the machine
-abbrev pub IsRowValue : Space → List Row → (row_value : Row → ℕ) → (other : Side)
+abbrev pub IsRowValue : Space → List DiffRow → (row_value : DiffRow → ℕ) → (other : Side)
     → Attributes → State
     → (content : ℕ) → Type 0
 IsRowValue space rows row_value other a g content =
-    ((row : Row) × Contains rows row × HasMachine space row a g × (row_value row ≡ content))
+    ((row : DiffRow) × Contains rows row × HasMachine space row a g × (row_value row ≡ content))
     ⊎ (gets other a g ≡ content)
 
 -- the rows say what a server of one manifest gives a machine, in a state that grants the same takes
-abbrev pub RowsMatchRuns : Scope → Space → List Row → (side other : Side) → (row_value : Row → ℕ)
-    → Type 0
+abbrev pub RowsMatchRuns : Scope → Space → List DiffRow → (side other : Side)
+    → (row_value : DiffRow → ℕ) → Type 0
 RowsMatchRuns x space rows side other row_value =
     (a : Attributes) (content : ℕ) (run : Serves x side a content)
     → (given : GivesAlike x side a content run) × IsRowValue space rows row_value other a
@@ -98,7 +98,7 @@ RowsMatchRuns x space rows side other row_value =
 
 -- for an app that is compared by rows: the rows are true of machines in states, and of runs of
 -- servers
-pub record RowsAreSo (x : Scope) (old new : Option JudgedApp) (space : Space) (rows : List Row)
+pub record RowsAreSo (x : Scope) (old new : Option JudgedApp) (space : Space) (rows : List DiffRow)
     (has : HasRows x old new space rows) : Type 0 where
   pub no_row : AreComplete x has.old_side has.new_side space rows
   pub true_of : AreTrue x has.old_side has.new_side space rows
@@ -119,7 +119,7 @@ pub record DiffIsSo : Type 0 where
   pub report : (both : OpenedBoth) (from_day : ℕ) (used : List CellBound) (diffs : List AppDiff)
       → AreAppDiffs both from_day used None diffs → (appid : List ℕ) → have_app both appid ≡ true
       → IsReported both from_day used diffs appid
-  pub rows : (x : Scope) (old new : Option JudgedApp) (space : Space) (rows : List Row)
+  pub rows : (x : Scope) (old new : Option JudgedApp) (space : Space) (rows : List DiffRow)
       (has : HasRows x old new space rows) → RowsAreSo x old new space rows has
   pub same : (old new : Option JudgedApp) → IsSame old new → (a : Attributes) (g : State)
       → IsAlike old new a g

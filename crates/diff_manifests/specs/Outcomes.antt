@@ -3,7 +3,7 @@ use Rattle.std.specs.Prelude.{◌≡◌, List, [], Option, Some, None, is_none}
 use Rattle.std.specs.Prelude.{Bool, true, false, ◌||◌, if◌then◌else◌}
 use Rattle.cells.specs.declared.array.CellArray.{CellArray}
 use Rattle.load.specs.declared.judged.JudgedApp.{JudgedApp}
-use Rattle.diff_rules.specs.Rows.{IsDiff, Row}
+use Rattle.diff_rules.specs.Rows.{IsDiff, DiffRow}
 use Rattle.diff_space.specs.Machines.{Side}
 use Rattle.diff_space.specs.Scopes.{Scope}
 use Rattle.diff_space.specs.Spaces.{Space}
@@ -27,7 +27,7 @@ change_of (Some app) (Some other) = Kept
 -- ---- rows
 
 -- no program decides, and these are the rows of the two sides
-pub record HasRows (x : Scope) (old new : Option JudgedApp) (space : Space) (rows : List Row)
+pub record HasRows (x : Scope) (old new : Option JudgedApp) (space : Space) (rows : List DiffRow)
     : Type 0 where
   pub old_side : Side
   pub new_side : Side
@@ -55,7 +55,7 @@ sources_of old new = record {
 -- all rows of the app are shown, and nothing else
 pub record ShowsRows (x : Scope) (old new : Option JudgedApp) (shown : AppRows) : Type 0 where
   pub space : Space
-  pub rows : List Row
+  pub rows : List DiffRow
   pub has_rows : HasRows x old new space rows
   pub are_shown : AreShown x space.dimensions (sources_of old new) rows shown.rows.items
 

@@ -12,7 +12,7 @@ use crate::outcome::{AppOutcome, WhyNot};
 use crate::same::{is_same_program, is_same_rule};
 use crate::sides::side_in;
 use cells::Shape;
-use diff_rules::{Contents, compare, contents_of};
+use diff_rules::{ContentNumbers, compare, contents_of};
 use diff_space::{Bounds, RuleSide, Work};
 use diff_text::{AppRows, app_rows};
 use load::JudgedApp;
@@ -25,7 +25,7 @@ fn rows_of(
     sides: (&RuleSide<'_>, &RuleSide<'_>),
     old: Option<&JudgedApp>,
     new: Option<&JudgedApp>,
-    contents: &Contents,
+    contents: &ContentNumbers,
     work: &mut Work,
 ) -> Result<Option<AppRows>, AllocError>
     requires contents { HasContents (option_copied old) (option_copied new)
@@ -59,7 +59,7 @@ fn rows_if_any<'x>(
     bounds: &Bounds<'_>,
     old: Option<&'x JudgedApp>,
     new: Option<&'x JudgedApp>,
-    contents: &'x Contents,
+    contents: &'x ContentNumbers,
     work: &mut Work,
 ) -> Result<Option<AppRows>, AllocError>
     requires { HasContents (option_copied old) (option_copied new) contents.now }
@@ -85,7 +85,11 @@ fn rows_if_any<'x>(
 }
 
 // Whether both manifests have the app with the same rule.
-fn have_same_rule(old: Option<&JudgedApp>, new: Option<&JudgedApp>, contents: &Contents) -> bool
+fn have_same_rule(
+    old: Option<&JudgedApp>,
+    new: Option<&JudgedApp>,
+    contents: &ContentNumbers,
+) -> bool
     requires old { IfSome (option_copied old) IsJudgedApp }
     requires new { IfSome (option_copied new) IsJudgedApp }
     requires contents { HasContents (option_copied old) (option_copied new)
@@ -98,7 +102,11 @@ fn have_same_rule(old: Option<&JudgedApp>, new: Option<&JudgedApp>, contents: &C
     }
 }
 
-fn have_same_program(old: Option<&JudgedApp>, new: Option<&JudgedApp>, contents: &Contents) -> bool
+fn have_same_program(
+    old: Option<&JudgedApp>,
+    new: Option<&JudgedApp>,
+    contents: &ContentNumbers,
+) -> bool
     requires { HasContents (option_copied old) (option_copied new) contents.now }
     ensures { result ≡ true → specs.IsSame (option_copied old.entry) (option_copied new.entry) }
 {

@@ -8,7 +8,7 @@ ghost use Rattle.diff_manifests.specs.Same as same;
 use crate::arrays::is_same_width;
 use bpf_verify::Verified;
 use cells::CellArray;
-use diff_rules::Contents;
+use diff_rules::ContentNumbers;
 use flow_check::one_verdict as one_verdict_of_bytes;
 use load::{JudgedApp, whole_file};
 use rule_lang::one_verdict;
@@ -100,7 +100,7 @@ fn has_same_rule(old: &JudgedApp, new: &JudgedApp) -> bool
 
 /// Whether both manifests have the app with one rule, on the same arrays, for the same contents.
 #[tactic(auto, using(crate::proofs::SameApps::same_rule))]
-pub(crate) fn is_same_rule(old: &JudgedApp, new: &JudgedApp, contents: &Contents) -> bool
+pub(crate) fn is_same_rule(old: &JudgedApp, new: &JudgedApp, contents: &ContentNumbers) -> bool
     requires old { IsJudgedApp old.now }
     requires new { IsJudgedApp new.now }
     requires contents { specs.HasContents (Some old.now) (Some new.now) contents.now }
@@ -111,7 +111,7 @@ pub(crate) fn is_same_rule(old: &JudgedApp, new: &JudgedApp, contents: &Contents
 
 /// Whether both manifests have the app with one program, or with rules that are compiled to one.
 #[tactic(auto, using(crate::proofs::SameApps::same_program))]
-pub(crate) fn is_same_program(old: &JudgedApp, new: &JudgedApp, contents: &Contents) -> bool
+pub(crate) fn is_same_program(old: &JudgedApp, new: &JudgedApp, contents: &ContentNumbers) -> bool
     requires { specs.HasContents (Some old.now) (Some new.now) contents.now }
     ensures { result ≡ true → specs.IsSameApp old.now new.now }
 {

@@ -17,9 +17,9 @@ use Rattle.diff_space.specs.Scopes.{Scope}
 use Rattle.diff_space.specs.Spaces.{IsSpaceOf, Space}
 use Rattle.diff_rules.specs.Checks.{are_right, has_all, has_none, have_none, in_segments, in_set}
 use Rattle.diff_rules.specs.Checks.{is_in_one, is_right, is_row_of, out_of_segments, out_of_set}
-use Rattle.diff_rules.specs.Classes.{Agrees, Class, Covers, IsInSome}
-use Rattle.diff_rules.specs.Rows.{AreApart, AreComplete, AreTrue, SegmentSet, IsDiff, IsInRow, Row}
-use Rattle.diff_rules.specs.Rows.{has_segment, row_agrees, is_row}
+use Rattle.diff_rules.specs.Classes.{Agrees, PlaceClass, Covers, IsInSome}
+use Rattle.diff_rules.specs.Rows.{AreApart, AreComplete, AreTrue, SegmentSet, IsDiff, IsInRow}
+use Rattle.diff_rules.specs.Rows.{DiffRow, has_segment, row_agrees, is_row}
 use Rattle.diff_rules.specs.Truths.{PartialPlace, partial_at}
 
 -- ---- lists
@@ -66,14 +66,14 @@ out_of_place segments (Some c) segment is h has =
     (ap (has_segment segments) (sym (is c refl)) ∙ has)
 
 module _ (place : List ℕ) (partial : PartialPlace) (agrees : Agrees place partial) where
-  has_all_place : (row : Row) → has_all row partial ≡ true → row_agrees row place ≡ true
+  has_all_place : (row : DiffRow) → has_all row partial ≡ true → row_agrees row place ≡ true
   has_all_place row all =
       all_give (in_set partial)
       (λ (set : SegmentSet). has_segment set.segments (slice_index place set.dimension))
       (λ set h. in_place set.segments (partial_at partial set.dimension)
       (slice_index place set.dimension) (agrees.each set.dimension) h) row.sets all
 
-  has_none_place : (row : Row) → has_none partial row ≡ true → row_agrees row place ≡ true → ⊥
+  has_none_place : (row : DiffRow) → has_none partial row ≡ true → row_agrees row place ≡ true → ⊥
   has_none_place row none has =
       any_not_all (out_of_set partial)
       (λ (set : SegmentSet). has_segment set.segments (slice_index place set.dimension))
@@ -82,31 +82,32 @@ module _ (place : List ℕ) (partial : PartialPlace) (agrees : Agrees place part
 
 -- ---- a class that is in one row
 
-record IsOneOf (rows : List Row) (place : List ℕ) (c : Class) : Type 0 where
+record IsOneOf (rows : List DiffRow) (place : List ℕ) (c : PlaceClass) : Type 0 where
   pub index : ℕ
-  pub row : Row
+  pub row : DiffRow
   pub there : slice_get rows index ≡ Some row
   pub is : is_row_of row c ≡ true
-  pub only : (l : ℕ) (other : Row) → slice_get rows l ≡ Some other
+  pub only : (l : ℕ) (other : DiffRow) → slice_get rows l ≡ Some other
       → row_agrees other place ≡ true → l ≡ index
 
-module _ (place : List ℕ) (c : Class) (agrees : Agrees place c.partial) where
-  only_first : (row : Row) (rows : List Row) → have_none rows c.partial ≡ true → (l : ℕ)
-      (other : Row) → slice_get (row ∷ rows) l ≡ Some other → row_agrees other place ≡ true → l ≡ 0
+module _ (place : List ℕ) (c : PlaceClass) (agrees : Agrees place c.partial) where
+  only_first : (row : DiffRow) (rows : List DiffRow) → have_none rows c.partial ≡ true → (l : ℕ)
+      (other : DiffRow) → slice_get (row ∷ rows) l ≡ Some other → row_agrees other place ≡ true
+      → l ≡ 0
   only_first row rows none zero other there has = refl
   only_first row rows none (suc l) other there has =
       absurd (has_none_place place c.partial agrees other
       (all_at (has_none c.partial) rows l other none there) has)
 
-  only_later : (row : Row) (rows : List Row) → has_none c.partial row ≡ true
-      → (rest : IsOneOf rows place c) → (l : ℕ) (other : Row)
+  only_later : (row : DiffRow) (rows : List DiffRow) → has_none c.partial row ≡ true
+      → (rest : IsOneOf rows place c) → (l : ℕ) (other : DiffRow)
       → slice_get (row ∷ rows) l ≡ Some other → row_agrees other place ≡ true → l ≡ suc rest.index
   only_later row rows none rest zero other there has =
       absurd (has_none_place place c.partial agrees row none
-      (ap (λ (r : Row). row_agrees r place) (same_Some row other there) ∙ has))
+      (ap (λ (r : DiffRow). row_agrees r place) (same_Some row other there) ∙ has))
   only_later row rows none rest (suc l) other there has = ap suc (rest.only l other there has)
 
-  first_or_later : (row : Row) (rows : List Row) (b : Bool) → is_row_of row c ≡ b
+  first_or_later : (row : DiffRow) (rows : List DiffRow) (b : Bool) → is_row_of row c ≡ b
       → (if b then have_none rows c.partial else has_none c.partial row && is_in_one rows c) ≡ true
       → (is_in_one rows c ≡ true → IsOneOf rows place c) → IsOneOf (row ∷ rows) place c
   first_or_later row rows true is h rest =
@@ -122,21 +123,22 @@ module _ (place : List ℕ) (c : Class) (agrees : Agrees place c.partial) where
         only = only_later row rows both.0 one;
       }
 
-  one_of : (rows : List Row) → is_in_one rows c ≡ true → IsOneOf rows place c
+  one_of : (rows : List DiffRow) → is_in_one rows c ≡ true → IsOneOf rows place c
   one_of [] h = absurd (false≢true h)
   one_of (row ∷ rows) h =
       first_or_later row rows (is_row_of row c) refl h (λ rest. one_of rows rest)
 
 -- ---- rows
 
-module _ (x : Scope) (old new : Side) (space : Space) (rows : List Row) (classes : List Class)
-    (covers : Covers x old new space classes) (right : are_right rows classes ≡ true) where
+module _ (x : Scope) (old new : Side) (space : Space) (rows : List DiffRow)
+    (classes : List PlaceClass) (covers : Covers x old new space classes)
+    (right : are_right rows classes ≡ true) where
   abbrev InOne : Attributes → State → Type 0
   InOne a g = IsInSome old new (place_of space.dimensions a g) a g classes
 
   right_at : (a : Attributes) (g : State) (i : InOne a g) → is_right rows i.one ≡ true
   right_at a g i =
-      All-contains (λ (c : Class). is_right rows c ≡ true) classes i.one
+      All-contains (λ (c : PlaceClass). is_right rows c ≡ true) classes i.one
       (AllPass-from_list_all (is_right rows) classes right) i.there
 
   -- the row of a class that differs has the machine in the state
@@ -151,7 +153,7 @@ module _ (x : Scope) (old new : Side) (space : Space) (rows : List Row) (classes
   complete_at : (a : Attributes) (g : State) (i : InOne a g) (b : Bool)
       → (i.one.current == i.one.next) ≡ b
       → (if b then have_none rows i.one.partial else is_in_one rows i.one) ≡ true
-      → ((row : Row) → Contains rows row → IsInRow x old new space rows row a g → ⊥)
+      → ((row : DiffRow) → Contains rows row → IsInRow x old new space rows row a g → ⊥)
       → gets old a g ≡ gets new a g
   complete_at a g i true same h none =
       i.is_in.current_is ∙ eqb-true i.one.current i.one.next same ∙ sym i.is_in.next_is
@@ -177,7 +179,7 @@ module _ (x : Scope) (old new : Side) (space : Space) (rows : List Row) (classes
   row_of : (a : Attributes) (g : State) (i : InOne a g) (b : Bool)
       → (i.one.current == i.one.next) ≡ b
       → (if b then have_none rows i.one.partial else is_in_one rows i.one) ≡ true
-      → (k : ℕ) (row : Row) → slice_get rows k ≡ Some row → IsInRow x old new space rows row a g
+      → (k : ℕ) (row : DiffRow) → slice_get rows k ≡ Some row → IsInRow x old new space rows row a g
       → IsRowOf a g i
   row_of a g i true same none k row there has =
       absurd (has_none_place (place_of space.dimensions a g) i.one.partial i.is_in.agrees row
@@ -187,7 +189,7 @@ module _ (x : Scope) (old new : Side) (space : Space) (rows : List Row) (classes
     one = one_of (place_of space.dimensions a g) i.one i.is_in.agrees rows h;
   }
 
-  row_is : (a : Attributes) (g : State) (i : InOne a g) (k : ℕ) (row : Row)
+  row_is : (a : Attributes) (g : State) (i : InOne a g) (k : ℕ) (row : DiffRow)
       → slice_get rows k ≡ Some row → IsInRow x old new space rows row a g → IsRowOf a g i
   row_is a g i k row there has =
       row_of a g i (i.one.current == i.one.next) refl (right_at a g i) k row there has
@@ -205,9 +207,9 @@ module _ (x : Scope) (old new : Side) (space : Space) (rows : List Row) (classes
       (has_all o.row i.one.partial) o.is in
       let parts = and_parts (o.row.current == i.one.current) (o.row.next == i.one.next) both.0 in
       let now : i.one.current ≡ row.current =
-      sym (eqb-true o.row.current i.one.current parts.0) ∙ ap (λ (r : Row). r.current) same in
+      sym (eqb-true o.row.current i.one.current parts.0) ∙ ap (λ (r : DiffRow). r.current) same in
       let next : i.one.next ≡ row.next =
-      sym (eqb-true o.row.next i.one.next parts.1) ∙ ap (λ (r : Row). r.next) same in (
+      sym (eqb-true o.row.next i.one.next parts.1) ∙ ap (λ (r : DiffRow). r.next) same in (
         i.is_in.current_is ∙ now,
         i.is_in.next_is ∙ next,
         λ equal. eqb-false i.one.current i.one.next r.differs (now ∙ equal ∙ sym next),
@@ -219,8 +221,8 @@ module _ (x : Scope) (old new : Side) (space : Space) (rows : List Row) (classes
       let r = row_is a g i k row at_k has in
       r.one.only k row at_k has ∙ sym (r.one.only l other at_l has_other)
 
-pub is_diff : (x : Scope) (old new : Side) (space : Space) (rows : List Row)
-    (classes : List Class) → IsSpaceOf x old new space → Covers x old new space classes
+pub is_diff : (x : Scope) (old new : Side) (space : Space) (rows : List DiffRow)
+    (classes : List PlaceClass) → IsSpaceOf x old new space → Covers x old new space classes
     → are_right rows classes ≡ true → list_all (is_row space.dimensions) rows ≡ true
     → IsDiff x old new space rows
 is_diff x old new space rows classes of covers right all = record {

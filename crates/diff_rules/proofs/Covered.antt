@@ -22,7 +22,7 @@ use Rattle.diff_space.specs.Spaces.{IsSpaceOf, Space}
 use Rattle.diff_rules.specs.declared.plan_run.PairRun.TheVariants as pair
 use Rattle.diff_rules.specs.declared.plan_run.PlanRun.{PlanRun}
 use Rattle.diff_rules.specs.declared.plan_run.PlanRun.TheVariants.{Gives, Needs, Unclear}
-use Rattle.diff_rules.specs.Classes.{Agrees, Class, Covers}
+use Rattle.diff_rules.specs.Classes.{Agrees, PlaceClass, Covers}
 use Rattle.diff_rules.specs.Search.{LosesNoMachine, IsPending, HasTuples}
 use Rattle.diff_rules.specs.Search.{is_possible, pair_run}
 use Rattle.diff_rules.specs.Stack.{plan_run}
@@ -126,7 +126,7 @@ line_at x ds at d lines there =
     subst (λ (e : Dimension). IsLine x e) (get_or_from_slice_get ds at d d there)
     (lines at d (slice_get_within ds at d there))
 
-module _ (space : Space) (classes : List Class) (left : List PartialPlace)
+module _ (space : Space) (classes : List PlaceClass) (left : List PartialPlace)
     (partial : PartialPlace) where
   pub split_loses_none : (new : List PartialPlace) (d : ℕ) (of : Dimension)
       → slice_get space.dimensions d ≡ Some of
@@ -187,7 +187,7 @@ module _ (space : Space) (classes : List Class) (left : List PartialPlace)
 
 -- ---- the whole search
 
-pub loses_none_then : (space : Space) (classes more last : List Class)
+pub loses_none_then : (space : Space) (classes more last : List PlaceClass)
     (left mid new : List PartialPlace)
     → LosesNoMachine space classes left more mid → LosesNoMachine space more mid last new
     → LosesNoMachine space classes left last new
@@ -195,7 +195,7 @@ loses_none_then space classes more last left mid new one two x old new_side is a
     before =
     two x old new_side is a g within (one x old new_side is a g within before)
 
-pub covered : (x : Scope) (old new : Side) (space : Space) (classes : List Class)
+pub covered : (x : Scope) (old new : Side) (space : Space) (classes : List PlaceClass)
     (first : PartialPlace)
     → IsSpaceOf x old new space → ((place : List ℕ) → Agrees place first)
     → LosesNoMachine space [] (first ∷ []) classes [] → Covers x old new space classes

@@ -13,7 +13,7 @@ use Rattle.diff_space.specs.declared.plan.PlanStatement.TheVariants.{Count, When
 use Rattle.diff_space.specs.Coordinates.{Dimension, place_of}
 use Rattle.diff_space.specs.Machines.{Side, State, chooses_in, content_of, gets, left_in}
 use Rattle.diff_space.specs.Plans.{IsPlanOf}
-use Rattle.diff_rules.specs.declared.condition.Part.{Part}
+use Rattle.diff_rules.specs.declared.condition.PartTruth.{PartTruth}
 use Rattle.diff_rules.specs.declared.plan_run.PlanRun.{PlanRun}
 use Rattle.diff_rules.specs.declared.plan_run.PlanRun.TheVariants as run
 use Rattle.diff_rules.specs.declared.truth.Truth.{Truth}
@@ -45,7 +45,8 @@ module _ (left : ℕ → ℕ) (contents : List ℕ) (release : ℕ) (rest : Beha
   module _ (a : Attributes) (s : AppShape) (first : List ℕ) (later : List ℕ → PlanRun)
       (is : (new : List ℕ) → RunIs (later new) (content_of contents (chooses_in left new rest)))
     where
-      one_is : {ts : List Tree} {ps : List Part} {new : List ℕ} → AreRun left a s first ts ps new
+      one_is : {ts : List Tree} {ps : List PartTruth} {new : List ℕ}
+          → AreRun left a s first ts ps new
           → RunIs (run_when ps (content_of contents release) (later new))
           (content_of contents
           (chooses_in left first (decide_one a s (Some ts) (Chooses release) rest)))

@@ -18,7 +18,7 @@ use Rattle.diff_space.specs.declared.plan_test.PlanTest.TheVariants.{Constant, C
 use Rattle.diff_space.specs.Coordinates.{Dimension, place_of}
 use Rattle.diff_space.specs.Machines.{State, chooses_in, left_in}
 use Rattle.diff_space.specs.Plans.{DecidesAs, IsStepOf}
-use Rattle.diff_rules.specs.declared.condition.Part.{Part}
+use Rattle.diff_rules.specs.declared.condition.PartTruth.{PartTruth}
 use Rattle.diff_rules.specs.declared.truth.Truth.{Truth}
 use Rattle.diff_rules.specs.declared.truth.Truth.TheVariants.{Holds, Fails, Needs, Unclear}
 use Rattle.diff_rules.specs.Classes.{Agrees}
@@ -30,7 +30,7 @@ use Rattle.diff_rules.proofs.Tests.{Goes, test_goes}
 -- a part on the stack is one of a tree: it was run after these takes, left those, and the choice
 -- continues as it says
 pub record IsPartOf (left : ℕ → ℕ) (a : Attributes) (s : AppShape) (c : Tree) (old : List ℕ)
-    (p : Part) (new : List ℕ) : Type 0 where
+    (p : PartTruth) (new : List ℕ) : Type 0 where
   pub more : List ℕ
   pub new_is : new ≡ more ++ old
   pub start : p.start ≡ length old
@@ -61,7 +61,7 @@ goes_negated left (Needs at) new met unmet choice is = tt
 goes_negated left Unclear new met unmet choice is = tt
 
 module _ (left : ℕ → ℕ) (a : Attributes) (s : AppShape) where
-  negated_is : (c : Tree) (p : Part) (old new : List ℕ) → IsPartOf left a s c old p new
+  negated_is : (c : Tree) (p : PartTruth) (old new : List ℕ) → IsPartOf left a s c old p new
       → IsPartOf left a s (Negated c) old (part (negated p.truth) p.start) new
   negated_is c p old new is = record {
     more = is.more;
@@ -72,7 +72,7 @@ module _ (left : ℕ → ℕ) (a : Attributes) (s : AppShape) where
   }
 
   -- the second part doesn't count
-  first_stays : (b c tree : Tree) (old mid new : List ℕ) (p q : Part)
+  first_stays : (b c tree : Tree) (old mid new : List ℕ) (p q : PartTruth)
       → IsPartOf left a s b old p mid → IsPartOf left a s c mid q new
       → ((met unmet : Behaviour)
       → Goes left p.truth mid met unmet (chooses_in left old (decide a s tree met unmet)))
@@ -82,7 +82,7 @@ module _ (left : ℕ → ℕ) (a : Attributes) (s : AppShape) where
       (sym (undone q.start second.more mid new second.new_is second.start))
       (record { more = first.more; new_is = first.new_is; start = first.start; goes = goes })
 
-  second_counts : (b c tree : Tree) (old mid new : List ℕ) (p q : Part)
+  second_counts : (b c tree : Tree) (old mid new : List ℕ) (p q : PartTruth)
       → IsPartOf left a s b old p mid → IsPartOf left a s c mid q new
       → ((met unmet : Behaviour) → chooses_in left old (decide a s tree met unmet)
       ≡ chooses_in left mid (decide a s c met unmet))
@@ -99,9 +99,9 @@ module _ (left : ℕ → ℕ) (a : Attributes) (s : AppShape) where
 
   module _ (first : List ℕ) where
     -- the parts of the trees, run in order
-    pub data AreRun : List Tree → List Part → List ℕ → Type 0 where
+    pub data AreRun : List Tree → List PartTruth → List ℕ → Type 0 where
       nothing : AreRun [] [] first
-      next : {ts : List Tree} {ps : List Part} {old new : List ℕ} {c : Tree} {p : Part}
+      next : {ts : List Tree} {ps : List PartTruth} {old new : List ℕ} {c : Tree} {p : PartTruth}
           → AreRun ts ps old → IsPartOf left a s c old p new
           → AreRun (c ∷ ts) (p ∷ ps) new
 
@@ -110,8 +110,8 @@ module _ (left : ℕ → ℕ) (a : Attributes) (s : AppShape) where
     Agree None None = Unit {0}
     Agree ts st = ⊥
 
-    both_joined : {ts : List Tree} {ps : List Part} {old mid new : List ℕ} (b c : Tree)
-        (t : Truth) (start : ℕ) (q : Part) → AreRun ts ps old
+    both_joined : {ts : List Tree} {ps : List PartTruth} {old mid new : List ℕ} (b c : Tree)
+        (t : Truth) (start : ℕ) (q : PartTruth) → AreRun ts ps old
         → IsPartOf left a s b old (part t start) mid → IsPartOf left a s c mid q new
         → Agree (Some (Both b c ∷ ts))
         (if goes_on Holds t then Some (stacked (part q.truth start ∷ ps) new)
@@ -129,8 +129,8 @@ module _ (left : ℕ → ℕ) (a : Attributes) (s : AppShape) where
         next rest (first_stays b c (Both b c) old mid new (part Unclear start) q p r
         (λ met unmet. tt))
 
-    either_joined : {ts : List Tree} {ps : List Part} {old mid new : List ℕ} (b c : Tree)
-        (t : Truth) (start : ℕ) (q : Part) → AreRun ts ps old
+    either_joined : {ts : List Tree} {ps : List PartTruth} {old mid new : List ℕ} (b c : Tree)
+        (t : Truth) (start : ℕ) (q : PartTruth) → AreRun ts ps old
         → IsPartOf left a s b old (part t start) mid → IsPartOf left a s c mid q new
         → Agree (Some (Either b c ∷ ts))
         (if goes_on Fails t then Some (stacked (part q.truth start ∷ ps) new)
@@ -161,7 +161,7 @@ module _ (Is : Attributes → State → Type 0) (ds : List Dimension) (s : AppSh
     (a : Attributes) (g : State) (partial : PartialPlace) (within : Is a g)
     (agrees : Agrees (place_of ds a g) partial) (first : List ℕ) where
   test_is : (line : ℕ) (t : Test) (p : PlanTest) → DecidesAs Is ds s t p
-      → {ts : List Tree} {ps : List Part} {taken : List ℕ}
+      → {ts : List Tree} {ps : List PartTruth} {taken : List ℕ}
       → AreRun (left_in g s) a s first ts ps taken
       → Agree (left_in g s) a s first (with_step (step.Test line t) ts)
       (stepped ds partial (plan_step.Test p) ps taken)
@@ -174,7 +174,7 @@ module _ (Is : Attributes → State → Type 0) (ds : List Dimension) (s : AppSh
         goes = test_goes Is ds s a g partial within agrees t p decides taken;
       })
 
-  not_is : {ts : List Tree} {ps : List Part} {taken : List ℕ}
+  not_is : {ts : List Tree} {ps : List PartTruth} {taken : List ℕ}
       → AreRun (left_in g s) a s first ts ps taken
       → Agree (left_in g s) a s first (with_step step.Not ts)
       (stepped ds partial plan_step.Not ps taken)
@@ -182,7 +182,7 @@ module _ (Is : Attributes → State → Type 0) (ds : List Dimension) (s : AppSh
   not_is (next {old = old} {new = new} {c = c} {p = p} rest is) =
       next rest (negated_is (left_in g s) a s c p old new is)
 
-  and_is : {ts : List Tree} {ps : List Part} {taken : List ℕ}
+  and_is : {ts : List Tree} {ps : List PartTruth} {taken : List ℕ}
       → AreRun (left_in g s) a s first ts ps taken
       → Agree (left_in g s) a s first (with_step step.And ts)
       (stepped ds partial plan_step.And ps taken)
@@ -191,7 +191,7 @@ module _ (Is : Attributes → State → Type 0) (ds : List Dimension) (s : AppSh
   and_is (next {c = c} {p = q} (next {c = b} {p = p} rest is) more) =
       both_joined (left_in g s) a s first b c p.truth p.start q rest is more
 
-  or_is : {ts : List Tree} {ps : List Part} {taken : List ℕ}
+  or_is : {ts : List Tree} {ps : List PartTruth} {taken : List ℕ}
       → AreRun (left_in g s) a s first ts ps taken
       → Agree (left_in g s) a s first (with_step step.Or ts)
       (stepped ds partial plan_step.Or ps taken)
@@ -201,7 +201,7 @@ module _ (Is : Attributes → State → Type 0) (ds : List Dimension) (s : AppSh
       either_joined (left_in g s) a s first b c p.truth p.start q rest is more
 
   step_is : (x : Step) (y : PlanStep) → IsStepOf Is ds s x y
-      → {ts : List Tree} {ps : List Part} {taken : List ℕ}
+      → {ts : List Tree} {ps : List PartTruth} {taken : List ℕ}
       → AreRun (left_in g s) a s first ts ps taken
       → Agree (left_in g s) a s first (with_step x ts) (stepped ds partial y ps taken)
   step_is (step.Test line t) (plan_step.Test p) is run = test_is line t p is run
@@ -222,7 +222,7 @@ module _ (Is : Attributes → State → Type 0) (ds : List Dimension) (s : AppSh
   step_is step.Or plan_step.Or is run = or_is run
 
   pub steps_are : (xs : List Step) (ys : List PlanStep) → AllZip (IsStepOf Is ds s) xs ys
-      → {ts : List Tree} {ps : List Part} {taken : List ℕ}
+      → {ts : List Tree} {ps : List PartTruth} {taken : List ℕ}
       → AreRun (left_in g s) a s first ts ps taken
       → Agree (left_in g s) a s first (trees_from ts xs) (after_steps ds partial ps taken ys)
   steps_are [] [] is run = run

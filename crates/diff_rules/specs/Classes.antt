@@ -8,7 +8,7 @@ use Rattle.diff_space.specs.Spaces.{Space}
 use Rattle.diff_rules.specs.Truths.{PartialPlace, partial_at}
 
 -- a partial place, and what both rules give to each machine in each state that agrees with it
-pub record Class : Type 0 where
+pub record PlaceClass : Type 0 where
   pub partial : PartialPlace
   pub current : ℕ
   pub next : ℕ
@@ -19,7 +19,7 @@ pub record Agrees (place : List ℕ) (partial : PartialPlace) : Type 0 where
       → slice_index place at ≡ segment
 
 -- a machine in a state is in a class, and gets what the class says
-pub record IsIn (old new : Side) (place : List ℕ) (a : Attributes) (g : State) (c : Class)
+pub record IsIn (old new : Side) (place : List ℕ) (a : Attributes) (g : State) (c : PlaceClass)
     : Type 0 where
   pub agrees : Agrees place c.partial
   pub current_is : gets old a g ≡ c.current
@@ -27,13 +27,13 @@ pub record IsIn (old new : Side) (place : List ℕ) (a : Attributes) (g : State)
 
 -- one of the classes has the machine in the state
 pub record IsInSome (old new : Side) (place : List ℕ) (a : Attributes) (g : State)
-    (classes : List Class) : Type 0 where
-  pub one : Class
+    (classes : List PlaceClass) : Type 0 where
+  pub one : PlaceClass
   pub there : Contains classes one
   pub is_in : IsIn old new place a g one
 
 -- each machine in each state is in one of the classes
-abbrev pub Covers : Scope → (old new : Side) → Space → List Class → Type 0
+abbrev pub Covers : Scope → (old new : Side) → Space → List PlaceClass → Type 0
 Covers x old new space classes =
     (a : Attributes) (g : State) → IsWithin x a g
     → IsInSome old new (place_of space.dimensions a g) a g classes

@@ -17,7 +17,7 @@ pub record SegmentSet : Type 0 where
   pub segments : List ℕ
 
 -- sets of segments, and what both rules give
-pub record Row : Type 0 where
+pub record DiffRow : Type 0 where
   pub current : ℕ
   pub next : ℕ
   pub sets : List SegmentSet
@@ -27,7 +27,7 @@ abbrev pub has_segment : (segments : List ℕ) → (segment : ℕ) → Bool
 has_segment segments segment = list_any (λ c. c == segment) segments
 
 -- the row has a place: each of its sets has the place's segment
-abbrev pub row_agrees : Row → (place : List ℕ) → Bool
+abbrev pub row_agrees : DiffRow → (place : List ℕ) → Bool
 row_agrees row place =
     list_all (λ set. has_segment set.segments (slice_index place set.dimension)) row.sets
 
@@ -42,34 +42,34 @@ abbrev pub is_set : List Dimension → SegmentSet → Bool
 is_set ds set = are_some (slice_get ds set.dimension) set.segments
 
 -- its contents differ, and `is_set` holds for each of its sets
-abbrev pub is_row : List Dimension → Row → Bool
+abbrev pub is_row : List Dimension → DiffRow → Bool
 is_row ds row = not (row.current == row.next) && list_all (is_set ds) row.sets
 
-module _ (x : Scope) (old new : Side) (space : Space) (rows : List Row) where
+module _ (x : Scope) (old new : Side) (space : Space) (rows : List DiffRow) where
   -- a machine in a state is in the row
-  abbrev pub IsInRow : Row → Attributes → State → Type 0
+  abbrev pub IsInRow : DiffRow → Attributes → State → Type 0
   IsInRow row a g = row_agrees row (place_of space.dimensions a g) ≡ true
 
   -- a machine that is in no row gets the same from both rules
   abbrev pub AreComplete : Type 0
   AreComplete = (a : Attributes) (g : State) → IsWithin x a g
-      → ((row : Row) → Contains rows row → IsInRow row a g → ⊥)
+      → ((row : DiffRow) → Contains rows row → IsInRow row a g → ⊥)
       → gets old a g ≡ gets new a g
 
   -- a machine that is in a row gets what it says, which differs
   abbrev pub AreTrue : Type 0
   AreTrue = (a : Attributes) (g : State) → IsWithin x a g
-      → (row : Row) → Contains rows row → IsInRow row a g
+      → (row : DiffRow) → Contains rows row → IsInRow row a g
       → (gets old a g ≡ row.current) × (gets new a g ≡ row.next) × (row.current ≢ row.next)
 
   -- no machine in a state is in two rows
   abbrev pub AreApart : Type 0
   AreApart = (a : Attributes) (g : State) → IsWithin x a g
-      → (k l : ℕ) (row other : Row) → slice_get rows k ≡ Some row → slice_get rows l ≡ Some other
-      → IsInRow row a g → IsInRow other a g → k ≡ l
+      → (k l : ℕ) (row other : DiffRow) → slice_get rows k ≡ Some row
+      → slice_get rows l ≡ Some other → IsInRow row a g → IsInRow other a g → k ≡ l
 
 -- the rows of two rules, and the space of these
-pub record IsDiff (x : Scope) (old new : Side) (space : Space) (rows : List Row) : Type 0 where
+pub record IsDiff (x : Scope) (old new : Side) (space : Space) (rows : List DiffRow) : Type 0 where
   pub of : IsSpaceOf x old new space
   pub complete : AreComplete x old new space rows
   pub are_true : AreTrue x old new space rows

@@ -13,7 +13,7 @@ use Rattle.diff_rules.specs.declared.plan_run.PairRun.{PairRun}
 use Rattle.diff_rules.specs.declared.plan_run.PairRun.TheVariants as pair
 use Rattle.diff_rules.specs.declared.plan_run.PlanRun.{PlanRun}
 use Rattle.diff_rules.specs.declared.plan_run.PlanRun.TheVariants.{Gives, Needs, Unclear}
-use Rattle.diff_rules.specs.Classes.{Agrees, Class, IsInSome}
+use Rattle.diff_rules.specs.Classes.{Agrees, PlaceClass, IsInSome}
 use Rattle.diff_rules.specs.Truths.{PartialPlace, partial_at}
 
 -- what both rules give, or the dimension whose segment is needed
@@ -77,13 +77,13 @@ pub record IsPending (left : List PartialPlace) (place : List ℕ) : Type 0 wher
   pub agrees : Agrees place partial
 
 -- a machine in a state is in one of the classes, or agrees with a partial place that is left
-abbrev pub IsInSomeOrLeft : (old new : Side) → (place : List ℕ) → Attributes → State → List Class
-    → (left : List PartialPlace) → Type 0
+abbrev pub IsInSomeOrLeft : (old new : Side) → (place : List ℕ) → Attributes → State
+    → List PlaceClass → (left : List PartialPlace) → Type 0
 IsInSomeOrLeft old new place a g classes left =
     IsInSome old new place a g classes ⊎ IsPending left place
 
 -- a machine that was in a class or left before a step is in a class or left after it
-abbrev pub LosesNoMachine : Space → List Class → List PartialPlace → List Class
+abbrev pub LosesNoMachine : Space → List PlaceClass → List PartialPlace → List PlaceClass
     → List PartialPlace → Type 0
 LosesNoMachine space classes left others more =
     (x : Scope) (old new : Side) → IsSpaceOf x old new space

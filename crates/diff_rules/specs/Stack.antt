@@ -9,7 +9,7 @@ use Rattle.diff_space.specs.declared.plan.PlanStatement.TheVariants.{Count, When
 use Rattle.diff_space.specs.declared.plan_test.PlanTest.{PlanTest}
 use Rattle.diff_space.specs.declared.plan_test.PlanTest.TheVariants.{Takes}
 use Rattle.diff_space.specs.Coordinates.{Dimension}
-use Rattle.diff_rules.specs.declared.condition.Part.{Part}
+use Rattle.diff_rules.specs.declared.condition.PartTruth.{PartTruth}
 use Rattle.diff_rules.specs.declared.plan_run.PlanRun.{PlanRun}
 use Rattle.diff_rules.specs.declared.plan_run.PlanRun.TheVariants as run
 use Rattle.diff_rules.specs.declared.truth.Truth.{Truth}
@@ -18,15 +18,15 @@ use Rattle.diff_rules.specs.Truths.{PartialPlace, negated, truth_of}
 
 -- a stack of parts, and the cells to which the run has added
 pub record Stacked : Type 0 where
-  pub parts : List Part
+  pub parts : List PartTruth
   pub taken : List ℕ
 
 -- the record of both
-abbrev pub stacked : List Part → (taken : List ℕ) → Stacked
+abbrev pub stacked : List PartTruth → (taken : List ℕ) → Stacked
 stacked parts taken = record { parts = parts; taken = taken }
 
 -- whether it holds, and how many takes the run had before it
-abbrev pub part : Truth → (start : ℕ) → Part
+abbrev pub part : Truth → (start : ℕ) → PartTruth
 part truth start = record { truth = truth; start = start }
 
 -- only the first `count` takes of a run
@@ -39,7 +39,7 @@ taken_by (Takes at of) taken = of ∷ taken
 taken_by t taken = taken
 
 -- the newest part is negated, if there is one
-abbrev pub not_newest : List Part → (taken : List ℕ) → Option Stacked
+abbrev pub not_newest : List PartTruth → (taken : List ℕ) → Option Stacked
 not_newest (p ∷ ps) taken = Some (stacked (part (negated p.truth) p.start ∷ ps) taken)
 not_newest [] taken = None
 
@@ -50,7 +50,7 @@ goes_on Fails Fails = true
 goes_on on first = false
 
 -- if the second part doesn't count, its takes are undone
-abbrev pub join_two : (on : Truth) → List Part → (taken : List ℕ) → Option Stacked
+abbrev pub join_two : (on : Truth) → List PartTruth → (taken : List ℕ) → Option Stacked
 join_two on (second ∷ first ∷ ps) taken =
     if goes_on on first.truth then Some (stacked (part second.truth first.start ∷ ps) taken)
     else Some (stacked (first ∷ ps) (first_takes second.start taken))
@@ -64,7 +64,7 @@ run_after (Needs at) outcome rest = run.Needs at
 run_after Unclear outcome rest = run.Unclear
 
 -- the steps of a condition leave one part
-abbrev pub run_when : List Part → (outcome : ℕ) → (rest : PlanRun) → PlanRun
+abbrev pub run_when : List PartTruth → (outcome : ℕ) → (rest : PlanRun) → PlanRun
 run_when (p ∷ []) outcome rest = run_after p.truth outcome rest
 run_when ps outcome rest = run.Unclear
 
@@ -75,7 +75,7 @@ run_after_steps None outcome rest = run.Unclear
 
 module _ (ds : List Dimension) (partial : PartialPlace) where
   -- the stack after one step
-  abbrev pub stepped : PlanStep → List Part → (taken : List ℕ) → Option Stacked
+  abbrev pub stepped : PlanStep → List PartTruth → (taken : List ℕ) → Option Stacked
   stepped (step.Test t) ps taken =
       Some (stacked (part (truth_of ds partial taken t) (length taken) ∷ ps) (taken_by t taken))
   stepped step.Not ps taken = not_newest ps taken
@@ -83,7 +83,7 @@ module _ (ds : List Dimension) (partial : PartialPlace) where
   stepped step.Or ps taken = join_two Fails ps taken
 
   -- the stack after these steps
-  abbrev pub after_steps : List Part → (taken : List ℕ) → List PlanStep → Option Stacked
+  abbrev pub after_steps : List PartTruth → (taken : List ℕ) → List PlanStep → Option Stacked
   after_steps ps taken [] = Some (stacked ps taken)
   after_steps ps taken (s ∷ ss) =
       option_and_then (λ st. after_steps st.parts st.taken ss) (stepped s ps taken)

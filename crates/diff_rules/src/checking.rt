@@ -6,8 +6,8 @@ ghost use Rattle.std.specs.List.{list_all};
 ghost use Rattle.diff_rules.specs.Checks as specs;
 ghost use Rattle.diff_rules.specs.Rows.{is_row};
 
-use crate::classes::Class;
-use crate::row::{Row, SegmentSet, has_segment, is_row};
+use crate::classes::PlaceClass;
+use crate::row::{DiffRow, SegmentSet, has_segment, is_row};
 use crate::truth::partial_at;
 use diff_space::Dimension;
 
@@ -32,14 +32,14 @@ fn is_out_of_set(partial: &[Option<u16>], set: &SegmentSet) -> bool
 }
 
 // Whether all machines with these segments are in the row.
-fn has_all(row: &Row, partial: &[Option<u16>]) -> bool
+fn has_all(row: &DiffRow, partial: &[Option<u16>]) -> bool
     ensures { result ≡ specs.has_all row.now partial.now }
 {
     row.sets.iter().all(|set| is_in_set(partial, set))
 }
 
 // Whether no machine with these segments is in the row.
-fn has_none(partial: &[Option<u16>], row: &Row) -> bool
+fn has_none(partial: &[Option<u16>], row: &DiffRow) -> bool
     ensures { result ≡ specs.has_none partial.now row.now }
 {
     let mut left = row.sets.as_slice();
@@ -52,20 +52,20 @@ fn has_none(partial: &[Option<u16>], row: &Row) -> bool
     false
 }
 
-fn is_row_of(row: &Row, class: &Class) -> bool
+fn is_row_of(row: &DiffRow, class: &PlaceClass) -> bool
     ensures { result ≡ specs.is_row_of row.now class.now }
 {
     row.current == class.current && row.next == class.next && has_all(row, &class.partial)
 }
 
-fn have_none(rows: &[Row], partial: &[Option<u16>]) -> bool
+fn have_none(rows: &[DiffRow], partial: &[Option<u16>]) -> bool
     ensures { result ≡ specs.have_none rows.now partial.now }
 {
     rows.iter().all(|row| has_none(partial, row))
 }
 
 // Whether the class is in exactly one row, which says what it gets.
-fn is_in_one(rows: &[Row], class: &Class) -> bool
+fn is_in_one(rows: &[DiffRow], class: &PlaceClass) -> bool
     ensures { result ≡ specs.is_in_one rows.now class.now }
 {
     let mut left = rows;
@@ -81,7 +81,7 @@ fn is_in_one(rows: &[Row], class: &Class) -> bool
     false
 }
 
-fn is_right(rows: &[Row], class: &Class) -> bool
+fn is_right(rows: &[DiffRow], class: &PlaceClass) -> bool
     ensures { result ≡ specs.is_right rows.now class.now }
 {
     if class.current == class.next {
@@ -93,14 +93,14 @@ fn is_right(rows: &[Row], class: &Class) -> bool
 
 /// Whether each class that gets another content is in exactly one row, which says so, and each
 /// other class is in no row.
-pub(crate) fn are_right(rows: &[Row], classes: &[Class]) -> bool
+pub(crate) fn are_right(rows: &[DiffRow], classes: &[PlaceClass]) -> bool
     ensures { result ≡ specs.are_right rows.now classes.now }
 {
     classes.iter().all(|class| is_right(rows, class))
 }
 
 /// Whether each row has sets of these dimensions.
-pub(crate) fn are_rows(dimensions: &[Dimension], rows: &[Row]) -> bool
+pub(crate) fn are_rows(dimensions: &[Dimension], rows: &[DiffRow]) -> bool
     ensures { result ≡ list_all (is_row dimensions.now) rows.now }
 {
     rows.iter().all(|row| is_row(dimensions, row))

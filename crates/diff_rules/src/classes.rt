@@ -16,22 +16,22 @@ use std::marker::Model;
 /// A segment for some of the dimensions, and what both rules give to each machine in each state
 /// that has these segments.
 #[derive(Drop)]
-pub struct Class {
+pub struct PlaceClass {
     pub partial: Vec<Option<u16>>,
     pub current: u8,
     pub next: u8,
 }
 
-impl Model for Class {
+impl Model for PlaceClass {
     ghost use Rattle.diff_rules.specs.Classes as specs;
 
-    ghost Value = { specs.Class };
+    ghost Value = { specs.PlaceClass };
 
     ghost view = { λ c. record { partial = c.partial.items; current = c.current; next = c.next } };
 }
 
 fn add_class(
-    classes: &mut Vec<Class>,
+    classes: &mut Vec<PlaceClass>,
     pending: Pending,
     current: u8,
     next: u8,
@@ -43,7 +43,7 @@ fn add_class(
     } ∷ []) }
 {
     let Pending { partial } = pending;
-    classes.push(Class {
+    classes.push(PlaceClass {
         partial,
         current,
         next,
@@ -56,7 +56,7 @@ fn add_class(
 fn advance(
     alloc: Global,
     space: &Space,
-    classes: &mut Vec<Class>,
+    classes: &mut Vec<PlaceClass>,
     left: &mut Vec<Pending>,
     pending: Pending,
     work: &mut Work,
@@ -118,7 +118,7 @@ fn find_all(
     most: usize,
     first: Pending,
     work: &mut Work,
-) -> Result<Option<Vec<Class>>, AllocError>
+) -> Result<Option<Vec<PlaceClass>>, AllocError>
     ensures { IfOk result (λ o. IfSome o (λ classes. specs.LosesNoMachine space.now [] (first ∷ [])
         classes.items [])) }
 {
@@ -147,7 +147,7 @@ pub(crate) fn classes_of(
     space: &Space,
     most: usize,
     work: &mut Work,
-) -> Result<Option<Vec<Class>>, AllocError>
+) -> Result<Option<Vec<PlaceClass>>, AllocError>
     ensures { (x : Scope) (old new : Side) → IsSpaceOf x old new space.now
         → IfOk result (λ o. IfSome o (λ classes. Covers x old new space.now classes.items)) }
 {

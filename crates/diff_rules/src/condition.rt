@@ -11,7 +11,7 @@ use std::alloc::{AllocError, Global};
 
 /// A part of a condition: whether it holds, and how many takes the run had before it.
 #[derive(Clone, Copy)]
-pub(crate) struct Part {
+pub(crate) struct PartTruth {
     pub truth: Truth,
     pub start: usize,
 }
@@ -43,7 +43,7 @@ fn add_taken(taken: &mut Vec<u32>, test: PlanTest) -> Result<(), AllocError>
 fn add_test(
     dimensions: &[Dimension],
     partial: &[Option<u16>],
-    parts: &mut Vec<Part>,
+    parts: &mut Vec<PartTruth>,
     taken: &mut Vec<u32>,
     test: PlanTest,
 ) -> Result<(), AllocError>
@@ -54,12 +54,12 @@ fn add_test(
     let start = taken.len();
     let truth = truth_of(dimensions, partial, taken.as_slice(), test);
     add_taken(taken, test)?;
-    parts.push(Part { truth, start })?;
+    parts.push(PartTruth { truth, start })?;
     Ok(())
 }
 
 // Negates the newest part, if there is one.
-fn negate(parts: &mut Vec<Part>) -> Result<(), AllocError>
+fn negate(parts: &mut Vec<PartTruth>) -> Result<(), AllocError>
     ensures { (taken : _) → OnOk result (specs.not_newest (reverse parts.old.items) taken
         ≡ Some (specs.stacked (reverse parts.new.items) taken)) }
 {
@@ -67,7 +67,7 @@ fn negate(parts: &mut Vec<Part>) -> Result<(), AllocError>
         return Err(AllocError);
     };
     let truth = newest.truth.negated();
-    parts.push(Part {
+    parts.push(PartTruth {
         truth,
         start: newest.start,
     })?;
@@ -81,12 +81,12 @@ fn undo(taken: &mut Vec<u32>, count: usize)
     taken.truncate(count);
 }
 
-fn joined(on: Truth, first: Part, second: Part, taken: &mut Vec<u32>) -> Part
+fn joined(on: Truth, first: PartTruth, second: PartTruth, taken: &mut Vec<u32>) -> PartTruth
     ensures { (below : _) → specs.join_two on (second ∷ first ∷ below) (reverse taken.old.items)
         ≡ Some (specs.stacked (result ∷ below) (reverse taken.new.items)) }
 {
     if goes_on(on, first.truth) {
-        return Part {
+        return PartTruth {
             truth: second.truth,
             start: first.start,
         };
@@ -96,7 +96,7 @@ fn joined(on: Truth, first: Part, second: Part, taken: &mut Vec<u32>) -> Part
 }
 
 // Joins the two newest parts, if there are two. The second counts if the first has this truth.
-fn join(parts: &mut Vec<Part>, taken: &mut Vec<u32>, on: Truth) -> Result<(), AllocError>
+fn join(parts: &mut Vec<PartTruth>, taken: &mut Vec<u32>, on: Truth) -> Result<(), AllocError>
     ensures { OnOk result (specs.join_two on (reverse parts.old.items) (reverse taken.old.items)
         ≡ Some (specs.stacked (reverse parts.new.items) (reverse taken.new.items))) }
 {
@@ -114,7 +114,7 @@ fn join(parts: &mut Vec<Part>, taken: &mut Vec<u32>, on: Truth) -> Result<(), Al
 fn take_step(
     dimensions: &[Dimension],
     partial: &[Option<u16>],
-    parts: &mut Vec<Part>,
+    parts: &mut Vec<PartTruth>,
     taken: &mut Vec<u32>,
     step: PlanStep,
 ) -> Result<(), AllocError>
@@ -133,7 +133,7 @@ fn take_step(
 fn take_steps(
     dimensions: &[Dimension],
     partial: &[Option<u16>],
-    parts: &mut Vec<Part>,
+    parts: &mut Vec<PartTruth>,
     taken: &mut Vec<u32>,
     steps: &[PlanStep],
 ) -> Result<(), AllocError>
@@ -157,7 +157,7 @@ pub(crate) fn read_condition(
     partial: &[Option<u16>],
     taken: &mut Vec<u32>,
     steps: &[PlanStep],
-) -> Result<Part, AllocError>
+) -> Result<PartTruth, AllocError>
     ensures { IfOk result (λ p. specs.after_steps dimensions.now partial.now []
         (reverse taken.old.items) steps.now
         ≡ Some (specs.stacked (p ∷ []) (reverse taken.new.items))) }

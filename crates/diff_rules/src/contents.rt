@@ -11,7 +11,7 @@ use std::alloc::{AllocError, Global};
 /// versions, codebases and packages have the same number: the position of the first of them. The
 /// old manifest's releases come first.
 #[derive(Drop)]
-pub struct Contents {
+pub struct ContentNumbers {
     pub old: Vec<u8>,
     pub new: Vec<u8>,
 }
@@ -108,7 +108,11 @@ fn numbers_of(
 
 /// The numbers of the contents of two manifests' releases. Each manifest has at most 64 of the app.
 // open: whether an allocation fails, its one error.
-pub fn contents_of(alloc: Global, old: &[Release], new: &[Release]) -> Result<Contents, AllocError>
+pub fn contents_of(
+    alloc: Global,
+    old: &[Release],
+    new: &[Release],
+) -> Result<ContentNumbers, AllocError>
     requires old { length old.now ≤ 64 }
     requires new { length new.now ≤ 64 }
     ensures old { IfOk result (λ c.
@@ -116,7 +120,7 @@ pub fn contents_of(alloc: Global, old: &[Release], new: &[Release]) -> Result<Co
     ensures new { IfOk result (λ c.
         c.new.items ≡ map (specs.content_number (old.now ++ new.now)) new.now) }
 {
-    Ok(Contents {
+    Ok(ContentNumbers {
         old: numbers_of(alloc, old, new, old)?,
         new: numbers_of(alloc, old, new, new)?,
     })

@@ -7,9 +7,9 @@ ghost use Rattle.diff_space.specs.Scopes.{Scope, scope_of, side_of};
 ghost use Rattle.diff_space.specs.Spaces.{IsSpaceOf};
 
 use crate::checking::{are_right, are_rows};
-use crate::classes::{Class, classes_of};
+use crate::classes::{PlaceClass, classes_of};
 use crate::merging::rows_of;
-use crate::row::Row;
+use crate::row::DiffRow;
 use diff_space::{Bounds, RuleSide, Space, Work, space_of};
 use std::alloc::{AllocError, Global};
 
@@ -20,7 +20,7 @@ pub const MOST_STEPS: usize = 100000;
 #[derive(Drop)]
 pub struct Diff {
     pub space: Space,
-    pub rows: Vec<Row>,
+    pub rows: Vec<DiffRow>,
 }
 
 impl Diff {
@@ -32,7 +32,7 @@ impl Diff {
 const MOST_SETS: usize = 400000;
 
 // How many sets the rows of these classes begin with.
-fn sets_of(classes: &[Class]) -> usize {
+fn sets_of(classes: &[PlaceClass]) -> usize {
     let mut sets: usize = 0;
     for class in classes {
         if class.current != class.next {
@@ -47,7 +47,7 @@ fn sets_of(classes: &[Class]) -> usize {
 }
 
 // How much is looked at to merge the classes of a space: each set in each dimension.
-fn merge_work(space: &Space, classes: &[Class]) -> usize {
+fn merge_work(space: &Space, classes: &[PlaceClass]) -> usize {
     let sets = sets_of(classes);
     if sets > MOST_SETS {
         return usize::MAX;
@@ -56,7 +56,7 @@ fn merge_work(space: &Space, classes: &[Class]) -> usize {
 }
 
 // How much is looked at to check a class: the sets of each row, and some of their segments.
-fn check_work(rows: &[Row]) -> usize {
+fn check_work(rows: &[DiffRow]) -> usize {
     let mut work: usize = 1;
     for row in rows {
         for set in &row.sets {
@@ -70,7 +70,7 @@ fn checked_rows(
     alloc: Global,
     space: &Space,
     work: &mut Work,
-) -> Result<Option<Vec<Row>>, AllocError>
+) -> Result<Option<Vec<DiffRow>>, AllocError>
     ensures { (x : Scope) (old new : Side) → IsSpaceOf x old new space.now
         → IfOk result (λ o. IfSome o (λ rows. IsDiff x old new space.now rows.items)) }
 {

@@ -24,7 +24,7 @@ mod row;
 mod splitting;
 mod truth;
 
-pub use contents::{Contents, contents_of};
+pub use contents::{ContentNumbers, contents_of};
 pub use diff::{Diff, MOST_STEPS, compare};
 pub use laws::runs_are_in_states;
-pub use row::{Row, SegmentSet};
+pub use row::{DiffRow, SegmentSet};

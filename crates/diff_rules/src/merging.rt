@@ -3,13 +3,13 @@
 
 ghost use Rattle.std.specs.Prelude.{◌<◌, IfSome, length};
 
-use crate::classes::Class;
-use crate::row::{Row, SegmentSet, has_segment};
+use crate::classes::PlaceClass;
+use crate::row::{DiffRow, SegmentSet, has_segment};
 use diff_space::Dimension;
 use std::alloc::{AllocError, Global};
 use std::collections::BTreeMap;
 
-fn row_of(alloc: Global, class: &Class) -> Result<Row, AllocError> {
+fn row_of(alloc: Global, class: &PlaceClass) -> Result<DiffRow, AllocError> {
     let mut sets = Vec::new(alloc);
     for dimension in 0..class.partial.len() {
         if let Some(segment) = class.partial[dimension] {
@@ -21,7 +21,7 @@ fn row_of(alloc: Global, class: &Class) -> Result<Row, AllocError> {
             })?;
         }
     }
-    Ok(Row {
+    Ok(DiffRow {
         current: class.current,
         next: class.next,
         sets,
@@ -56,7 +56,7 @@ fn hash_of_set(hash: u64, set: &SegmentSet) -> u64 {
 }
 
 // A hash of a row without its set of one dimension.
-fn hash_without(row: &Row, dimension: usize) -> u64 {
+fn hash_without(row: &DiffRow, dimension: usize) -> u64 {
     let mut hash = mixed(row.current as u64, row.next as u64);
     for set in &row.sets {
         if set.dimension != dimension {
@@ -86,7 +86,7 @@ fn differ_only_in(sets: &[SegmentSet], others: &[SegmentSet], dimension: usize) 
     sets.len() == others.len()
 }
 
-fn is_joined(row: &Row, other: &Row, dimension: usize) -> bool {
+fn is_joined(row: &DiffRow, other: &DiffRow, dimension: usize) -> bool {
     row.current == other.current
         && row.next == other.next
         && differ_only_in(&row.sets, &other.sets, dimension)
@@ -110,7 +110,7 @@ fn sort_segments(set: &mut SegmentSet) {
 }
 
 // Adds the segments of another row's set of the dimension.
-fn add_set(row: &mut Row, other: &Row, dimension: usize) -> Result<(), AllocError> {
+fn add_set(row: &mut DiffRow, other: &DiffRow, dimension: usize) -> Result<(), AllocError> {
     let Some(from) = find_set(&other.sets, dimension) else {
         return Ok(());
     };
@@ -121,9 +121,9 @@ fn add_set(row: &mut Row, other: &Row, dimension: usize) -> Result<(), AllocErro
 }
 
 fn add_row(
-    merged: &mut Vec<Row>,
+    merged: &mut Vec<DiffRow>,
     places: &mut BTreeMap<u64, usize>,
-    row: Row,
+    row: DiffRow,
     dimension: usize,
 ) -> Result<(), AllocError> {
     let hash = hash_without(&row, dimension);
@@ -138,7 +138,7 @@ fn add_row(
 }
 
 // Leaves out a set that has all segments of the dimension, and otherwise orders its segments.
-fn leave_out(row: &mut Row, dimension: usize, segments: usize) {
+fn leave_out(row: &mut DiffRow, dimension: usize, segments: usize) {
     if let Some(place) = find_set(&row.sets, dimension) {
         if has_count(&row.sets[place], segments) {
             let _set = row.sets.remove(place);
@@ -150,10 +150,10 @@ fn leave_out(row: &mut Row, dimension: usize, segments: usize) {
 
 fn merged_at(
     alloc: Global,
-    rows: Vec<Row>,
+    rows: Vec<DiffRow>,
     dimension: usize,
     segments: usize,
-) -> Result<Vec<Row>, AllocError> {
+) -> Result<Vec<DiffRow>, AllocError> {
     let mut merged = Vec::new(alloc);
     let mut places = BTreeMap::new(alloc);
     for row in rows {
@@ -165,7 +165,7 @@ fn merged_at(
     Ok(merged)
 }
 
-fn rows_that_differ(alloc: Global, classes: &[Class]) -> Result<Vec<Row>, AllocError> {
+fn rows_that_differ(alloc: Global, classes: &[PlaceClass]) -> Result<Vec<DiffRow>, AllocError> {
     let mut rows = Vec::new(alloc);
     for class in classes {
         if class.current != class.next {
@@ -179,8 +179,8 @@ fn rows_that_differ(alloc: Global, classes: &[Class]) -> Result<Vec<Row>, AllocE
 pub(crate) fn rows_of(
     alloc: Global,
     dimensions: &[Dimension],
-    classes: &[Class],
-) -> Result<Vec<Row>, AllocError> {
+    classes: &[PlaceClass],
+) -> Result<Vec<DiffRow>, AllocError> {
     let mut rows = rows_that_differ(alloc, classes)?;
     let mut k = dimensions.len();
     while k > 0 {

@@ -26,16 +26,16 @@ impl Model for SegmentSet {
 /// The machines in states whose segment is in each of these sets. They get `current` from the old
 /// rule, and `next` from the new one.
 #[derive(Drop)]
-pub struct Row {
+pub struct DiffRow {
     pub current: u8,
     pub next: u8,
     pub sets: Vec<SegmentSet>,
 }
 
-impl Model for Row {
+impl Model for DiffRow {
     ghost use Rattle.diff_rules.specs.Rows as specs;
 
-    ghost Value = { specs.Row };
+    ghost Value = { specs.DiffRow };
 
     ghost view = { λ r. record { current = r.current; next = r.next; sets = r.sets.items } };
 }
@@ -91,7 +91,7 @@ fn are_sets(dimensions: &[Dimension], sets: &[SegmentSet]) -> bool
 }
 
 /// Whether the row's contents differ, and each set has some segments of a dimension, but not all.
-pub(crate) fn is_row(dimensions: &[Dimension], row: &Row) -> bool
+pub(crate) fn is_row(dimensions: &[Dimension], row: &DiffRow) -> bool
     ensures { result ≡ rows.is_row dimensions.now row.now }
 {
     row.current != row.next && are_sets(dimensions, &row.sets)

@@ -18,7 +18,7 @@ use Rattle.diff_space.specs.Scopes.{IsWithin, Scope}
 use Rattle.diff_space.proofs.Cells.{begins_alike}
 use Rattle.diff_space.proofs.Ranges.{from_first, to_last}
 use Rattle.diff_rules.specs.Rows.{SegmentSet, has_segment}
-use Rattle.diff_text.specs.declared.intervals.Interval.{Interval}
+use Rattle.diff_text.specs.declared.intervals.NumberRange.{NumberRange}
 use Rattle.diff_text.specs.Grants.{AreRangesOf, have_number, is_range}
 use Rattle.diff_text.specs.Tables.{agrees, is_cut}
 use Rattle.diff_text.proofs.Matched.{agrees_all}
@@ -65,7 +65,7 @@ module _ (x : Scope) (d : Dimension) (line : IsLine x d) (a : Attributes) (g : S
       ∙ to_high begin n
 
   -- the ranges have a number exactly if they have that at which its segment begins
-  begins_in : (ranges : List Interval) → list_all (is_cut d) ranges ≡ true
+  begins_in : (ranges : List NumberRange) → list_all (is_cut d) ranges ≡ true
       → have_number ranges number ≡ have_number ranges begin
   begins_in [] cut = refl
   begins_in (r ∷ rs) cut =
@@ -78,7 +78,7 @@ module _ (x : Scope) (d : Dimension) (line : IsLine x d) (a : Attributes) (g : S
       (ap₂ (λ (b c : Bool). b && c) (low_is r.low low.1) (high_is r.high ends.1))
       (begins_in rs both.1)
 
-all_ranges : (d : Dimension) (ranges : List Interval) → list_all (is_cut d) ranges ≡ true
+all_ranges : (d : Dimension) (ranges : List NumberRange) → list_all (is_cut d) ranges ≡ true
     → list_all (is_range d) ranges ≡ true
 all_ranges d [] cut = refl
 all_ranges d (r ∷ rs) cut =
@@ -89,7 +89,7 @@ all_ranges d (r ∷ rs) cut =
     let low = and_parts (is_range d r) (decides d.starts d.last Ge r.low) ends.0 in
     ap₂ (λ (b c : Bool). b && c) low.0 (all_ranges d rs both.1)
 
-pub are_ranges : (x : Scope) (d : Dimension) (set : SegmentSet) (ranges : List Interval)
+pub are_ranges : (x : Scope) (d : Dimension) (set : SegmentSet) (ranges : List NumberRange)
     → IsLine x d → list_all (is_cut d) ranges ≡ true
     → agrees set.segments 0 (map (have_number ranges) d.starts) ≡ true → AreRangesOf x d set ranges
 are_ranges x d set ranges line cut same = record {

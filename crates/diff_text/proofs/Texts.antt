@@ -6,7 +6,7 @@ use Rattle.std.specs.List.{AllZip}
 use Rattle.std.proofs.lemmas.List.{append_assoc}
 use Rattle.std.proofs.lemmas.List.Sorted.{list_any-IsPermutation}
 use Rattle.cells.specs.declared.array.CellArray.{CellArray}
-use Rattle.diff_rules.specs.Rows.{Row, SegmentSet}
+use Rattle.diff_rules.specs.Rows.{DiffRow, SegmentSet}
 use Rattle.diff_space.specs.Coordinates.{Dimension}
 use Rattle.diff_space.specs.Scopes.{Scope}
 use Rattle.diff_space.proofs.Planned.{none_left, opened}
@@ -15,7 +15,7 @@ use Rattle.diff_text.specs.declared.shown.AppRows.{AppRows}
 use Rattle.diff_text.specs.Conditions.{and_texts, grant_sets, is_grant}
 use Rattle.diff_text.specs.Grants.{AreGrantTexts, IsGrantText}
 use Rattle.diff_text.specs.Kinds.{is_lost, kind_in, some_lost}
-use Rattle.diff_text.specs.Shown.{AreShown, IsShownAs, ShownRow, Sources, some_shown_lost}
+use Rattle.diff_text.specs.Shown.{AreShown, IsShownAs, ShownRow, RowSources, some_shown_lost}
 
 pub and_both : (ts us : List (List ℕ)) → and_texts (ts ++ us) ≡ and_texts ts ++ and_texts us
 and_both [] us = refl
@@ -43,9 +43,9 @@ second_part (x ∷ xs) ys (suc k) past =
 
 -- ---- whether a row is lost
 
-module _ (x : Scope) (ds : List Dimension) (from : Sources) where
-  lost_each : (rows : List Row) (shown : List ShownRow) → AllZip (IsShownAs x ds from) rows shown
-      → some_shown_lost shown ≡ some_lost from.all rows
+module _ (x : Scope) (ds : List Dimension) (from : RowSources) where
+  lost_each : (rows : List DiffRow) (shown : List ShownRow)
+      → AllZip (IsShownAs x ds from) rows shown → some_shown_lost shown ≡ some_lost from.all rows
   lost_each [] [] each = refl
   lost_each [] (s ∷ ss) each = absurd each
   lost_each (r ∷ rs) [] each = absurd each
@@ -53,25 +53,25 @@ module _ (x : Scope) (ds : List Dimension) (from : Sources) where
       ap (λ (k : RowKind). is_lost k || some_shown_lost ss) each.0.kind
       ∙ ap (λ (b : Bool). is_lost (kind_in from.all r) || b) (lost_each rs ss each.1)
 
-  pub lost_is : (rows : List Row) (shown : List ShownRow) → AreShown x ds from rows shown
+  pub lost_is : (rows : List DiffRow) (shown : List ShownRow) → AreShown x ds from rows shown
       → some_shown_lost shown ≡ some_lost from.all rows
   lost_is rows shown h =
       sym (list_any-IsPermutation (λ (row : ShownRow). is_lost row.kind) h.in_order shown h.same)
       ∙ lost_each rows h.in_order h.each
 
-pub lost_in : (x : Scope) (ds : List Dimension) (from : Sources) (rows : List Row)
+pub lost_in : (x : Scope) (ds : List Dimension) (from : RowSources) (rows : List DiffRow)
     (o : Option AppRows) → IfSome o (λ a. AreShown x ds from rows a.rows.items)
     → IfSome o (λ a. some_shown_lost a.rows.items ≡ some_lost from.all rows)
 lost_in x ds from rows None h = tt
 lost_in x ds from rows (Some a) h = lost_is x ds from rows a.rows.items h
 
-pub shown_same : (x : Scope) (ds others : List Dimension) (from to : Sources) (rows more : List Row)
-    (o : Option AppRows) → ds ≡ others → from ≡ to → rows ≡ more
+pub shown_same : (x : Scope) (ds others : List Dimension) (from to : RowSources)
+    (rows more : List DiffRow) (o : Option AppRows) → ds ≡ others → from ≡ to → rows ≡ more
     → IfSome o (λ a. AreShown x ds from rows a.rows.items)
     → IfSome o (λ a. AreShown x others to more a.rows.items)
 shown_same x ds others from to rows more o one two three h =
-    subst (λ (rs : List Row). IfSome o (λ a. AreShown x others to rs a.rows.items)) three
-    (subst (λ (s : Sources). IfSome o (λ a. AreShown x others s rows a.rows.items)) two
+    subst (λ (rs : List DiffRow). IfSome o (λ a. AreShown x others to rs a.rows.items)) three
+    (subst (λ (s : RowSources). IfSome o (λ a. AreShown x others s rows a.rows.items)) two
     (subst (λ (es : List Dimension). IfSome o (λ a. AreShown x es from rows a.rows.items)) one h))
 
 -- ---- words of sets, one after another

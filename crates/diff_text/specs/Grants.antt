@@ -10,22 +10,22 @@ use Rattle.diff_space.specs.Machines.{State}
 use Rattle.diff_space.specs.Scopes.{IsWithin, Scope}
 use Rattle.diff_space.specs.declared.coordinate.Coordinate.TheVariants.{Takes}
 use Rattle.diff_rules.specs.Rows.{SegmentSet, has_segment}
-use Rattle.diff_text.specs.declared.intervals.Interval.{Interval}
+use Rattle.diff_text.specs.declared.intervals.NumberRange.{NumberRange}
 
 -- ---- numbers
 
-abbrev pub has_number : Interval → ℕ → Bool
+abbrev pub has_number : NumberRange → ℕ → Bool
 has_number r n = nat_le r.low n && nat_le n r.high
 
-abbrev pub have_number : List Interval → ℕ → Bool
+abbrev pub have_number : List NumberRange → ℕ → Bool
 have_number ranges n = list_any (λ r. has_number r n) ranges
 
 -- some numbers of the dimension
-abbrev pub is_range : Dimension → Interval → Bool
+abbrev pub is_range : Dimension → NumberRange → Bool
 is_range d r = nat_le r.low r.high && nat_le r.high d.last
 
 -- one of the ranges has the number of a machine in a state exactly if the set has its cell
-pub record AreRangesOf (x : Scope) (d : Dimension) (set : SegmentSet) (ranges : List Interval)
+pub record AreRangesOf (x : Scope) (d : Dimension) (set : SegmentSet) (ranges : List NumberRange)
     : Type 0 where
   pub each : list_all (is_range d) ranges ≡ true
   pub are : (a : Attributes) (g : State) → IsWithin x a g
@@ -34,7 +34,7 @@ pub record AreRangesOf (x : Scope) (d : Dimension) (set : SegmentSet) (ranges : 
 -- ---- words
 
 -- takes that are left, of at most `most`
-abbrev pub left_text : (most : ℕ) → Interval → List ℕ
+abbrev pub left_text : (most : ℕ) → NumberRange → List ℕ
 left_text most r =
     if r.high == 0 then codes " used up"
     else if (r.low == 1) && (r.high == most) then codes " open"
@@ -64,24 +64,24 @@ module _ (old new : List CellArray) where
       a.name ++ codes "[" ++ decimal index ++ codes "]" ++ side_text old new a
 
   -- a cell with takes that are left
-  abbrev pub grant_text : CellArray → (index most : ℕ) → Interval → List ℕ
+  abbrev pub grant_text : CellArray → (index most : ℕ) → NumberRange → List ℕ
   grant_text a index most r = cell_text a index ++ left_text most r
 
   -- ranges after the first one
-  abbrev pub or_texts : CellArray → (index most : ℕ) → List Interval → List ℕ
+  abbrev pub or_texts : CellArray → (index most : ℕ) → List NumberRange → List ℕ
   or_texts a index most [] = []
   or_texts a index most (r ∷ rs) =
       codes " or " ++ grant_text a index most r ++ or_texts a index most rs
 
   -- several ranges are in parentheses
-  abbrev pub grants_text : CellArray → (index most : ℕ) → List Interval → List ℕ
+  abbrev pub grants_text : CellArray → (index most : ℕ) → List NumberRange → List ℕ
   grants_text a index most [] = []
   grants_text a index most (r ∷ []) = grant_text a index most r
   grants_text a index most (r ∷ s ∷ rs) =
       codes "(" ++ grant_text a index most r ++ or_texts a index most (s ∷ rs) ++ codes ")"
 
   -- the words of ranges of a dimension's numbers
-  pub record IsTextOf (d : Dimension) (ranges : List Interval) (text : List ℕ) : Type 0 where
+  pub record IsTextOf (d : Dimension) (ranges : List NumberRange) (text : List ℕ) : Type 0 where
     pub array : CellArray
     pub index : ℕ
     pub of : d.of ≡ Takes array index
@@ -92,7 +92,7 @@ module _ (old new : List CellArray) where
       : Type 0 where
     pub dimension : Dimension
     pub is_at : slice_get ds set.dimension ≡ Some dimension
-    pub ranges : List Interval
+    pub ranges : List NumberRange
     pub are : AreRangesOf x dimension set ranges
     pub text_is : IsTextOf dimension ranges text
 

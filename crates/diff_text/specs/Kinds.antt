@@ -7,7 +7,7 @@ use Rattle.std.specs.declared.cmp.Ordering.TheVariants.{Less, Equal, Greater}
 use Rattle.attrs.specs.Version.{version_of}
 use Rattle.releases.specs.Release.{Release}
 use Rattle.rule_lang.specs.Meaning.{version_cmp}
-use Rattle.diff_rules.specs.Rows.{Row}
+use Rattle.diff_rules.specs.Rows.{DiffRow}
 use Rattle.diff_text.specs.declared.kind.RowKind.{RowKind}
 use Rattle.diff_text.specs.declared.kind.RowKind.TheVariants as kind
 
@@ -33,7 +33,7 @@ abbrev pub release_of : (all : List Release) → (content : ℕ) → Option Rele
 release_of all content = if content == 0 then None else slice_get all (content - 1)
 
 -- the kind of a row, by the releases of both manifests, the old ones first
-abbrev pub kind_in : (all : List Release) → Row → RowKind
+abbrev pub kind_in : (all : List Release) → DiffRow → RowKind
 kind_in all row = kind_of (release_of all row.current) (release_of all row.next)
 
 -- somebody gets no release any more, or one of a lower version
@@ -45,7 +45,7 @@ is_lost kind.Newer = false
 is_lost kind.Gain = false
 
 -- some row is lost
-abbrev pub some_lost : (all : List Release) → List Row → Bool
+abbrev pub some_lost : (all : List Release) → List DiffRow → Bool
 some_lost all rows = list_any (λ row. is_lost (kind_in all row)) rows
 
 -- the name in JSON

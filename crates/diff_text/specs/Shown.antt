@@ -7,7 +7,7 @@ use Rattle.cells.specs.declared.array.CellArray.{CellArray}
 use Rattle.releases.specs.Release.{Release}
 use Rattle.diff_space.specs.Coordinates.{Dimension}
 use Rattle.diff_space.specs.Scopes.{Scope}
-use Rattle.diff_rules.specs.Rows.{SegmentSet, Row}
+use Rattle.diff_rules.specs.Rows.{SegmentSet, DiffRow}
 use Rattle.diff_text.specs.declared.kind.RowKind.{RowKind}
 use Rattle.diff_text.specs.Conditions.{ReadBack, grant_sets, is_grant, tested_sets}
 use Rattle.diff_text.specs.Grants.{AreGrantTexts}
@@ -45,7 +45,7 @@ are_grants ds sets = list_all (λ set. is_grant (slice_get ds set.dimension)) se
 
 -- what is shown of rows: the releases of both manifests, the old ones first; the contents' numbers
 -- of both; and their arrays
-pub record Sources : Type 0 where
+pub record RowSources : Type 0 where
   pub all : List Release
   pub old_contents : List ℕ
   pub new_contents : List ℕ
@@ -60,14 +60,14 @@ has_content contents all content =
     && nat_le content (length all))
 
 -- both contents of a row are those of a release
-abbrev pub has_releases : Sources → Row → Bool
+abbrev pub has_releases : RowSources → DiffRow → Bool
 has_releases from row =
     has_content from.old_contents from.all row.current
     && has_content from.new_contents from.all row.next
 
-module _ (x : Scope) (ds : List Dimension) (from : Sources) where
+module _ (x : Scope) (ds : List Dimension) (from : RowSources) where
   -- how a row is shown
-  pub record IsShownAs (row : Row) (shown : ShownRow) : Type 0 where
+  pub record IsShownAs (row : DiffRow) (shown : ShownRow) : Type 0 where
     pub kind : shown.kind ≡ kind_in from.all row
     pub current : shown.current ≡ shown_of from.all from.old_contents row.current
     pub next : shown.next ≡ shown_of from.all from.new_contents row.next
@@ -77,7 +77,7 @@ module _ (x : Scope) (ds : List Dimension) (from : Sources) where
         shown.grants
 
   -- each row is shown, and nothing else, in some order
-  pub record AreShown (rows : List Row) (shown : List ShownRow) : Type 0 where
+  pub record AreShown (rows : List DiffRow) (shown : List ShownRow) : Type 0 where
     pub in_order : List ShownRow
     pub each : AllZip IsShownAs rows in_order
     pub same : IsPermutation in_order shown

@@ -20,7 +20,7 @@ use Rattle.diff_space.specs.Scopes.{IsWithin, Scope}
 use Rattle.diff_space.specs.Tests.{ComparesNumberAt}
 use Rattle.diff_space.specs.declared.test_line.NumberComparison.{NumberComparison}
 use Rattle.diff_rules.specs.Rows.{SegmentSet, has_segment}
-use Rattle.diff_text.specs.declared.intervals.Interval.{Interval}
+use Rattle.diff_text.specs.declared.intervals.NumberRange.{NumberRange}
 use Rattle.diff_text.specs.Conditions.{is_grant}
 use Rattle.diff_text.specs.Grants.{is_range}
 
@@ -111,7 +111,7 @@ tree_by false b c = Either b c
 -- ---- comparing ranges and tables with sets
 
 -- some numbers of the dimension, and no segment has numbers in the range and others
-abbrev pub is_cut : Dimension → Interval → Bool
+abbrev pub is_cut : Dimension → NumberRange → Bool
 is_cut d r =
     is_range d r && decides d.starts d.last Ge r.low && decides d.starts d.last Le r.high
 

@@ -1,7 +1,7 @@
 //! The condition of a row as texts in the words of rules, which `and` joins. Nothing is proved of
 //! them here: the condition is read back.
 
-use crate::intervals::{Interval, interval_of, intervals_of};
+use crate::intervals::{NumberRange, interval_of, intervals_of};
 use crate::line_tests::{add_comparison, add_interval};
 use crate::matching::has_segment;
 use crate::test_texts::TestTexts;
@@ -65,7 +65,7 @@ fn lack_numbers(dimension: &Dimension, segments: &[u16]) -> bool {
 }
 
 // Whether it is shorter to rule the missing segments out than to name the intervals.
-fn is_shorter(missing: usize, segments: &[u16], intervals: &[Interval]) -> bool {
+fn is_shorter(missing: usize, segments: &[u16], intervals: &[NumberRange]) -> bool {
     match intervals {
         [only] => missing == 1 && !has_segment(segments, 0) && !only.is_single(),
         several => missing > 0 && missing <= several.len(),
@@ -82,7 +82,7 @@ fn add_missing(texts: &mut TestTexts, dimension: &Dimension, segments: &[u16]) {
     }
 }
 
-fn add_intervals(texts: &mut TestTexts, dimension: &Dimension, intervals: &[Interval]) {
+fn add_intervals(texts: &mut TestTexts, dimension: &Dimension, intervals: &[NumberRange]) {
     let count = intervals.len();
     for k in 0..count {
         texts.begin_part(k, count);

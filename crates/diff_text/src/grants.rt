@@ -8,7 +8,7 @@ ghost use Rattle.diff_space.specs.Scopes.{Scope};
 ghost use Rattle.diff_text.specs.Conditions.{grant_sets};
 ghost use Rattle.diff_text.specs.Grants as specs;
 
-use crate::intervals::Interval;
+use crate::intervals::NumberRange;
 use crate::left_ranges::ranges_of;
 use crate::matching::is_grant;
 use cells::CellArray;
@@ -20,7 +20,7 @@ use std::fmt::Write;
 
 // ---- words
 
-fn push_left(text: &mut String, most: u128, range: Interval) -> Result<(), AllocError>
+fn push_left(text: &mut String, most: u128, range: NumberRange) -> Result<(), AllocError>
     ensures { OnOk result (Puts text.old text.new (specs.left_text most range)) }
 {
     let low = range.low;
@@ -79,7 +79,7 @@ struct Cell<'a> {
     most: u128,
 }
 
-fn push_grant(text: &mut String, cell: Cell<'_>, range: Interval) -> Result<(), AllocError>
+fn push_grant(text: &mut String, cell: Cell<'_>, range: NumberRange) -> Result<(), AllocError>
     ensures { OnOk result (Puts text.old text.new (specs.grant_text cell.entry.old.now
         cell.entry.new.now cell.entry.array.now cell.entry.index cell.entry.most range)) }
 {
@@ -90,7 +90,7 @@ fn push_grant(text: &mut String, cell: Cell<'_>, range: Interval) -> Result<(), 
     push_left(text, cell.most, range)
 }
 
-fn push_others(text: &mut String, cell: Cell<'_>, ranges: &[Interval]) -> Result<(), AllocError>
+fn push_others(text: &mut String, cell: Cell<'_>, ranges: &[NumberRange]) -> Result<(), AllocError>
     ensures { OnOk result (Puts text.old text.new (specs.or_texts cell.entry.old.now
         cell.entry.new.now cell.entry.array.now cell.entry.index cell.entry.most ranges.now)) }
 {
@@ -103,7 +103,7 @@ fn push_others(text: &mut String, cell: Cell<'_>, ranges: &[Interval]) -> Result
     Ok(())
 }
 
-fn push_grants(text: &mut String, cell: Cell<'_>, ranges: &[Interval]) -> Result<(), AllocError>
+fn push_grants(text: &mut String, cell: Cell<'_>, ranges: &[NumberRange]) -> Result<(), AllocError>
     ensures { OnOk result (Puts text.old text.new (specs.grants_text cell.entry.old.now
         cell.entry.new.now cell.entry.array.now cell.entry.index cell.entry.most ranges.now)) }
 {
@@ -126,7 +126,7 @@ fn grants_text<'x>(
     old: &'x [CellArray],
     new: &'x [CellArray],
     dimension: &'x Dimension,
-    ranges: &[Interval],
+    ranges: &[NumberRange],
 ) -> Result<Option<String>, AllocError>
     ensures { IfOk result (λ o. IfSome o (λ text.
         specs.IsTextOf old.now new.now dimension.now ranges.now (string_bytes text))) }

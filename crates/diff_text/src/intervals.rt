@@ -5,12 +5,12 @@ use std::alloc::{AllocError, Global};
 
 /// The numbers from `low` to `high`, both included.
 #[derive(Clone, Copy)]
-pub(crate) struct Interval {
+pub(crate) struct NumberRange {
     pub low: u128,
     pub high: u128,
 }
 
-impl Interval {
+impl NumberRange {
     /// Whether it is one number.
     pub(crate) fn is_single(self) -> bool {
         self.low == self.high
@@ -18,7 +18,7 @@ impl Interval {
 }
 
 /// The numbers of a segment.
-pub(crate) fn interval_of(dimension: &Dimension, segment: usize) -> Interval {
+pub(crate) fn interval_of(dimension: &Dimension, segment: usize) -> NumberRange {
     let low = match dimension.starts.get(segment) {
         Some(start) => *start,
         None => 0,
@@ -27,14 +27,14 @@ pub(crate) fn interval_of(dimension: &Dimension, segment: usize) -> Interval {
         Some(next) => next.saturating_sub(1),
         None => dimension.last,
     };
-    Interval { low, high }
+    NumberRange { low, high }
 }
 
 // Adds an interval, or joins it with the last one, after which it comes.
-fn push_interval(intervals: &mut Vec<Interval>, next: Interval) -> Result<(), AllocError> {
+fn push_interval(intervals: &mut Vec<NumberRange>, next: NumberRange) -> Result<(), AllocError> {
     let joined = match intervals.pop() {
         None => next,
-        Some(before) if before.high.saturating_add(1) == next.low => Interval {
+        Some(before) if before.high.saturating_add(1) == next.low => NumberRange {
             low: before.low,
             high: next.high,
         },
@@ -51,7 +51,7 @@ pub(crate) fn intervals_of(
     alloc: Global,
     dimension: &Dimension,
     segments: &[u16],
-) -> Result<Vec<Interval>, AllocError> {
+) -> Result<Vec<NumberRange>, AllocError> {
     let mut intervals = Vec::new(alloc);
     for segment in segments {
         push_interval(&mut intervals, interval_of(dimension, *segment as usize))?;

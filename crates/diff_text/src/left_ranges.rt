@@ -8,20 +8,20 @@ ghost use Rattle.diff_space.specs.Scopes.{Scope};
 ghost use Rattle.diff_text.specs.Grants as specs;
 ghost use Rattle.diff_text.specs.Tables as tables;
 
-use crate::intervals::{Interval, intervals_of};
+use crate::intervals::{NumberRange, intervals_of};
 use crate::matching::agrees_at;
 use diff_rules::SegmentSet;
 use diff_space::{Dimension, decides};
 use rule_lang::Comparison;
 use std::alloc::{AllocError, Global};
 
-fn has_number(range: Interval, number: u128) -> bool
+fn has_number(range: NumberRange, number: u128) -> bool
     ensures { result ≡ specs.has_number range number }
 {
     range.low <= number && number <= range.high
 }
 
-fn have_number(ranges: &[Interval], number: u128) -> bool
+fn have_number(ranges: &[NumberRange], number: u128) -> bool
     ensures { result ≡ specs.have_number ranges.now number }
 {
     let mut left = ranges;
@@ -35,7 +35,7 @@ fn have_number(ranges: &[Interval], number: u128) -> bool
 }
 
 // Whether it has numbers of the dimension, and no segment has numbers in it and others.
-fn is_cut(dimension: &Dimension, range: Interval) -> bool
+fn is_cut(dimension: &Dimension, range: NumberRange) -> bool
     ensures { result ≡ tables.is_cut dimension.now range }
 {
     range.low <= range.high
@@ -49,7 +49,7 @@ fn is_cut(dimension: &Dimension, range: Interval) -> bool
         )
 }
 
-fn are_cut(dimension: &Dimension, ranges: &[Interval]) -> bool
+fn are_cut(dimension: &Dimension, ranges: &[NumberRange]) -> bool
     ensures { result ≡ list_all (tables.is_cut dimension.now) ranges.now }
 {
     let mut left = ranges;
@@ -63,7 +63,7 @@ fn are_cut(dimension: &Dimension, ranges: &[Interval]) -> bool
 }
 
 // Whether the ranges have the numbers at which exactly these segments begin.
-fn ranges_agree(segments: &[u16], ranges: &[Interval], starts: &[u128]) -> bool
+fn ranges_agree(segments: &[u16], ranges: &[NumberRange], starts: &[u128]) -> bool
     ensures { result ≡ tables.agrees segments.now 0
         (map (specs.have_number ranges.now) starts.now) }
 {
@@ -80,7 +80,7 @@ fn ranges_agree(segments: &[u16], ranges: &[Interval], starts: &[u128]) -> bool
 }
 
 // Whether the ranges have exactly the numbers of these segments.
-fn are_ranges(dimension: &Dimension, set: &SegmentSet, ranges: &[Interval]) -> bool
+fn are_ranges(dimension: &Dimension, set: &SegmentSet, ranges: &[NumberRange]) -> bool
     ensures { (x : Scope) → IsLine x dimension.now → result ≡ true
         → specs.AreRangesOf x dimension.now set.now ranges.now }
 {
@@ -95,7 +95,7 @@ pub(crate) fn ranges_of(
     alloc: Global,
     dimension: &Dimension,
     set: &SegmentSet,
-) -> Result<Option<Vec<Interval>>, AllocError>
+) -> Result<Option<Vec<NumberRange>>, AllocError>
     ensures { (x : Scope) → IsLine x dimension.now → IfOk result (λ o. IfSome o (λ ranges.
         specs.AreRangesOf x dimension.now set.now ranges.items)) }
 {

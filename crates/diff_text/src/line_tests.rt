@@ -1,6 +1,6 @@
 //! Tests of a number. Nothing is proved of them here: the condition is read back.
 
-use crate::intervals::Interval;
+use crate::intervals::NumberRange;
 use crate::test_texts::TestTexts;
 use attrs::{Context, Flag};
 use diff_space::{Coordinate, Dimension};
@@ -94,7 +94,7 @@ pub(crate) fn add_comparison(
 pub(crate) fn add_interval(
     texts: &mut TestTexts,
     dimension: &Dimension,
-    interval: Interval,
+    interval: NumberRange,
     is_alone: bool,
 ) {
     let of = &dimension.of;

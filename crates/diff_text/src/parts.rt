@@ -12,11 +12,11 @@ use std::marker::Model;
 
 /// A part of a condition: tables that all hold.
 #[derive(Drop)]
-pub(crate) struct Part {
+pub(crate) struct Conjunction {
     pub tables: Vec<Table>,
 }
 
-impl Model for Part {
+impl Model for Conjunction {
     ghost use Rattle.std.specs.Prelude.{List};
     ghost use Rattle.diff_text.specs.Tables as specs;
 
@@ -27,16 +27,16 @@ impl Model for Part {
 
 // ---- one part out of others
 
-fn part_of(alloc: Global, table: Table) -> Result<Part, AllocError>
+fn part_of(alloc: Global, table: Table) -> Result<Conjunction, AllocError>
     ensures { IfOk result (λ p. p ≡ table ∷ []) }
 {
     let mut tables = Vec::new(alloc);
     tables.push(table)?;
-    Ok(Part { tables })
+    Ok(Conjunction { tables })
 }
 
 // The table of a part that has only one.
-fn only_table(part: Part) -> Option<Table>
+fn only_table(part: Conjunction) -> Option<Table>
     ensures { IfSome result (λ t. part ≡ t ∷ []) }
 {
     let mut tables = part.tables;
@@ -54,7 +54,7 @@ pub(crate) fn tested(
     alloc: Global,
     dimensions: &[Dimension],
     test: &Test,
-) -> Result<Option<Part>, AllocError>
+) -> Result<Option<Conjunction>, AllocError>
     ensures { (line : _) → IfOk result (specs.IsMade dimensions.now (Leaf line test.now)) }
 {
     let Some(table) = table_of(alloc, dimensions, test)? else {
@@ -78,7 +78,7 @@ fn negated_table(alloc: Global, table: &Table) -> Result<Table, AllocError>
 }
 
 /// A part under `not`; none if it has several tables.
-pub(crate) fn negated(alloc: Global, part: Part) -> Result<Option<Part>, AllocError>
+pub(crate) fn negated(alloc: Global, part: Conjunction) -> Result<Option<Conjunction>, AllocError>
     ensures { (ds : _) → All (specs.IsTable ds) part → IfOk result
         (λ o. IfSome o (specs.IsNegated ds part)) }
 {
@@ -120,7 +120,11 @@ fn joined_table(
     Ok(Some(table))
 }
 
-fn either(alloc: Global, first: Part, second: Part) -> Result<Option<Part>, AllocError>
+fn either(
+    alloc: Global,
+    first: Conjunction,
+    second: Conjunction,
+) -> Result<Option<Conjunction>, AllocError>
     ensures { (ds : _) → All (specs.IsTable ds) first → All (specs.IsTable ds) second
         → IfOk result (λ o. IfSome o (specs.IsJoined ds (specs.join_by false) first second)) }
 {
@@ -143,7 +147,7 @@ fn either(alloc: Global, first: Part, second: Part) -> Result<Option<Part>, Allo
 }
 
 // A table more: it is joined with the last one, if both are of one dimension.
-fn with_table(alloc: Global, first: Part, second: Table) -> Result<Part, AllocError>
+fn with_table(alloc: Global, first: Conjunction, second: Table) -> Result<Conjunction, AllocError>
     ensures { (ds : _) → All (specs.IsTable ds) first → specs.IsTable ds second → IfOk result
         (λ p. specs.IsJoined ds (specs.join_by true) first (second ∷ []) p) }
 {
@@ -154,17 +158,21 @@ fn with_table(alloc: Global, first: Part, second: Table) -> Result<Part, AllocEr
     match joined_table(alloc, true, &last, &second)? {
         Some(table) => {
             tables.push(table)?;
-            Ok(Part { tables })
+            Ok(Conjunction { tables })
         }
         None => {
             tables.push(last)?;
             tables.push(second)?;
-            Ok(Part { tables })
+            Ok(Conjunction { tables })
         }
     }
 }
 
-fn both(alloc: Global, first: Part, second: Part) -> Result<Option<Part>, AllocError>
+fn both(
+    alloc: Global,
+    first: Conjunction,
+    second: Conjunction,
+) -> Result<Option<Conjunction>, AllocError>
     ensures { (ds : _) → All (specs.IsTable ds) first → All (specs.IsTable ds) second
         → IfOk result (λ o. IfSome o (specs.IsJoined ds (specs.join_by true) first second)) }
 {
@@ -179,9 +187,9 @@ fn both(alloc: Global, first: Part, second: Part) -> Result<Option<Part>, AllocE
 pub(crate) fn joined(
     alloc: Global,
     is_and: bool,
-    first: Option<Part>,
-    second: Option<Part>,
-) -> Result<Option<Part>, AllocError>
+    first: Option<Conjunction>,
+    second: Option<Conjunction>,
+) -> Result<Option<Conjunction>, AllocError>
     ensures { (ds : _) (b c : Tree) → specs.IsMade ds b first → specs.IsMade ds c second
         → IfOk result (specs.IsMade ds (specs.tree_by is_and b c)) }
 {

@@ -10,9 +10,9 @@ ghost use Rattle.diff_text.specs.Shown as specs;
 use crate::condition::tests_of;
 use crate::grants::grants_of;
 use crate::shown::{AppRows, ShownRelease, ShownRow};
-use crate::sources::{Sources, has_releases, kind_of, shown_current, shown_next, sources_of};
+use crate::sources::{RowSources, has_releases, kind_of, shown_current, shown_next, sources_of};
 use cells::CellArray;
-use diff_rules::{Contents, Diff, Row};
+use diff_rules::{ContentNumbers, Diff, DiffRow};
 use diff_space::Dimension;
 use releases::Release;
 use std::alloc::{AllocError, Global};
@@ -21,9 +21,9 @@ use std::alloc::{AllocError, Global};
 fn shown_row(
     alloc: Global,
     days: &mut Vec<u32>,
-    from: &Sources<'_>,
+    from: &RowSources<'_>,
     dimensions: &[Dimension],
-    row: &Row,
+    row: &DiffRow,
 ) -> Result<Option<ShownRow>, AllocError>
     ensures { (x : Scope) → All (IsLine x) dimensions.now → IfOk result (λ o. IfSome o
         (specs.IsShownAs x dimensions.now from.now row.now)) }
@@ -60,9 +60,9 @@ fn shown_row(
 fn shown_rows(
     alloc: Global,
     days: &mut Vec<u32>,
-    from: &Sources<'_>,
+    from: &RowSources<'_>,
     dimensions: &[Dimension],
-    rows: &[Row],
+    rows: &[DiffRow],
 ) -> Result<Option<Vec<ShownRow>>, AllocError>
     ensures { (x : Scope) → All (IsLine x) dimensions.now → IfOk result (λ o. IfSome o (λ shown.
         AllZip (specs.IsShownAs x dimensions.now from.now) rows.now shown.items)) }
@@ -103,9 +103,9 @@ fn sort(rows: &mut Vec<ShownRow>) -> Result<(), AllocError>
 
 fn rows_of(
     alloc: Global,
-    from: &Sources<'_>,
+    from: &RowSources<'_>,
     dimensions: &[Dimension],
-    rows: &[Row],
+    rows: &[DiffRow],
 ) -> Result<Option<AppRows>, AllocError>
     ensures { (x : Scope) → All (IsLine x) dimensions.now → IfOk result (λ o. IfSome o
         (λ shown. specs.AreShown x dimensions.now from.now rows.now shown.rows.items)) }
@@ -128,7 +128,7 @@ fn rows_of(
 pub fn app_rows(
     alloc: Global,
     diff: &Diff,
-    contents: &Contents,
+    contents: &ContentNumbers,
     old: &[Release],
     new: &[Release],
     old_arrays: &[CellArray],

@@ -9,7 +9,7 @@ ghost use Rattle.diff_text.specs.Shown as specs;
 use crate::kind::RowKind;
 use crate::shown::ShownRelease;
 use cells::CellArray;
-use diff_rules::{Contents, Row};
+use diff_rules::{ContentNumbers, DiffRow};
 use releases::Release;
 use std::alloc::{AllocError, Global};
 use std::marker::Model;
@@ -76,19 +76,19 @@ fn shown_release(
 
 /// What is shown of rows: the releases of both manifests, their contents and their arrays.
 #[derive(Drop)]
-pub(crate) struct Sources<'a> {
+pub(crate) struct RowSources<'a> {
     old: &'a [Release],
     new: &'a [Release],
-    contents: &'a Contents,
+    contents: &'a ContentNumbers,
     pub old_arrays: &'a [CellArray],
     pub new_arrays: &'a [CellArray],
 }
 
-impl<'a> Model for Sources<'a> {
+impl<'a> Model for RowSources<'a> {
     ghost use Rattle.std.specs.Prelude.{◌++◌};
     ghost use Rattle.diff_text.specs.Shown as specs;
 
-    ghost Value = { specs.Sources };
+    ghost Value = { specs.RowSources };
 
     ghost view = { λ s. record {
       all = s.old.now ++ s.new.now;
@@ -99,7 +99,7 @@ impl<'a> Model for Sources<'a> {
     } };
 }
 
-fn has_content(contents: &[u8], from: &Sources<'_>, content: u8) -> bool
+fn has_content(contents: &[u8], from: &RowSources<'_>, content: u8) -> bool
     ensures { result ≡ specs.has_content contents.now from.now.all content }
 {
     content == 0
@@ -108,7 +108,7 @@ fn has_content(contents: &[u8], from: &Sources<'_>, content: u8) -> bool
 }
 
 /// Whether both contents of a row are those of a release.
-pub(crate) fn has_releases(from: &Sources<'_>, row: &Row) -> bool
+pub(crate) fn has_releases(from: &RowSources<'_>, row: &DiffRow) -> bool
     ensures { result ≡ specs.has_releases from.now row.now }
 {
     has_content(&from.contents.old, from, row.current)
@@ -116,7 +116,7 @@ pub(crate) fn has_releases(from: &Sources<'_>, row: &Row) -> bool
 }
 
 /// The kind of a row.
-pub(crate) fn kind_of(from: &Sources<'_>, row: &Row) -> RowKind
+pub(crate) fn kind_of(from: &RowSources<'_>, row: &DiffRow) -> RowKind
     ensures { result ≡ kinds.kind_in from.now.all row.now }
 {
     let release = release_of(from.old, from.new, row.current);
@@ -127,8 +127,8 @@ pub(crate) fn kind_of(from: &Sources<'_>, row: &Row) -> RowKind
 /// The release of the old manifest in a row.
 pub(crate) fn shown_current(
     alloc: Global,
-    from: &Sources<'_>,
-    row: &Row,
+    from: &RowSources<'_>,
+    row: &DiffRow,
 ) -> Result<Option<ShownRelease>, AllocError>
     ensures { IfOk result (λ shown. shown
         ≡ specs.shown_of from.now.all from.now.old_contents row.now.current) }
@@ -141,8 +141,8 @@ pub(crate) fn shown_current(
 /// The release of the new manifest in a row.
 pub(crate) fn shown_next(
     alloc: Global,
-    from: &Sources<'_>,
-    row: &Row,
+    from: &RowSources<'_>,
+    row: &DiffRow,
 ) -> Result<Option<ShownRelease>, AllocError>
     ensures { IfOk result (λ shown. shown
         ≡ specs.shown_of from.now.all from.now.new_contents row.now.next) }
@@ -154,12 +154,12 @@ pub(crate) fn shown_next(
 
 /// These together.
 pub(crate) fn sources_of<'x>(
-    contents: &'x Contents,
+    contents: &'x ContentNumbers,
     old: &'x [Release],
     new: &'x [Release],
     old_arrays: &'x [CellArray],
     new_arrays: &'x [CellArray],
-) -> Sources<'x>
+) -> RowSources<'x>
     ensures { result ≡ record {
       all = old.now ++ new.now;
       old_contents = contents.now.old.items;
@@ -168,7 +168,7 @@ pub(crate) fn sources_of<'x>(
       new_arrays = new_arrays.now;
     } }
 {
-    Sources {
+    RowSources {
         old,
         new,
         contents,

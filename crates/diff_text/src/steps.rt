@@ -5,7 +5,7 @@ ghost use Rattle.diff_space.specs.Lines.{IsLine};
 ghost use Rattle.diff_space.specs.Scopes.{Scope};
 ghost use Rattle.diff_text.specs.Tables.{IsMade, IsWhole};
 
-use crate::parts::{Part, joined, negated, tested};
+use crate::parts::{Conjunction, joined, negated, tested};
 use diff_space::Dimension;
 use rule_eval::{ConditionFold, fold};
 use rule_lang::{RuleCondition, Test};
@@ -20,15 +20,15 @@ struct Tabulation<'a> {
 impl ConditionFold for Tabulation<'_> {
     type State = ();
 
-    type Part = Option<Part>;
+    type Part = Option<Conjunction>;
 
     ghost evaluates = { λ by _ c made _. IsMade by.dimensions.now c made };
 
-    fn test(&self, _state: &mut (), test: &Test) -> Result<Option<Part>, AllocError> {
+    fn test(&self, _state: &mut (), test: &Test) -> Result<Option<Conjunction>, AllocError> {
         tested(self.alloc, self.dimensions, test)
     }
 
-    fn not(&self, part: Option<Part>) -> Result<Option<Part>, AllocError> {
+    fn not(&self, part: Option<Conjunction>) -> Result<Option<Conjunction>, AllocError> {
         match part {
             Some(part) => negated(self.alloc, part),
             None => Ok(None),
@@ -38,18 +38,18 @@ impl ConditionFold for Tabulation<'_> {
     fn and(
         &self,
         _state: &mut (),
-        first: Option<Part>,
-        second: Option<Part>,
-    ) -> Result<Option<Part>, AllocError> {
+        first: Option<Conjunction>,
+        second: Option<Conjunction>,
+    ) -> Result<Option<Conjunction>, AllocError> {
         joined(self.alloc, true, first, second)
     }
 
     fn or(
         &self,
         _state: &mut (),
-        first: Option<Part>,
-        second: Option<Part>,
-    ) -> Result<Option<Part>, AllocError> {
+        first: Option<Conjunction>,
+        second: Option<Conjunction>,
+    ) -> Result<Option<Conjunction>, AllocError> {
         joined(self.alloc, false, first, second)
     }
 }
@@ -59,7 +59,7 @@ pub(crate) fn tables_of(
     alloc: Global,
     dimensions: &[Dimension],
     condition: &RuleCondition,
-) -> Result<Option<Part>, AllocError>
+) -> Result<Option<Conjunction>, AllocError>
     ensures { (x : Scope) → All (IsLine x) dimensions.now → IfOk result (λ o. IfSome o
         (IsWhole x dimensions.now condition.now)) }
 {

@@ -11,7 +11,7 @@ use Rattle.attrs.specs.Facts.{known_day}
 use Rattle.omaha_json.specs.Request.{is_value, text_in}
 use Rattle.dry_run.specs.Members.{fits, platform_written}
 use Rattle.dry_run.specs.Noted.{IsDay, IsNoted, IsTextNoted, not_there, it_counts, ignored}
-use Rattle.dry_run.specs.declared.wanted.Wanted.TheVariants as wanted
+use Rattle.dry_run.specs.declared.wanted.MemberKind.TheVariants as wanted
 
 -- ---- a text
 

@@ -30,7 +30,7 @@ use Rattle.ruleset.specs.Rules.{AppRule, ChoosesAmong, ListsApp, Rules, app_in, 
 use Rattle.trace.specs.Trace.{IsTraced}
 use Rattle.trace.specs.declared.jump.Jump.{Jump}
 use Rattle.dry_run.specs.Courses.{ExplainsCourse, WholeRun}
-use Rattle.dry_run.specs.declared.app_runs.Course.TheVariants.{ByRule, ByRun}
+use Rattle.dry_run.specs.declared.app_runs.ChoiceCourse.TheVariants.{ByRule, ByRun}
 use Rattle.dry_run.proofs.Courses.{differs, choice_of, state_of, cell_of, op_of, next_of}
 
 -- ---- a run that ends well is short and chooses among the releases

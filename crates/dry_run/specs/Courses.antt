@@ -10,8 +10,8 @@ use Rattle.cells.specs.Grown.{GrewBy}
 use Rattle.cells.specs.declared.event.CellEvent.{CellEvent}
 use Rattle.why_choice.specs.RuleLines.{ExplainsRule}
 use Rattle.trace.specs.Jumps.{last_jump_of}
-use Rattle.dry_run.specs.declared.app_runs.Course.{Course}
-use Rattle.dry_run.specs.declared.app_runs.Course.TheVariants.{ByRule, ByRun}
+use Rattle.dry_run.specs.declared.app_runs.ChoiceCourse.{ChoiceCourse}
+use Rattle.dry_run.specs.declared.app_runs.ChoiceCourse.TheVariants.{ByRule, ByRun}
 use Rattle.load.specs.JudgedApps.{OptionalRule}
 
 -- from its first instruction to its end, on counters with the values `old`, each of which replies
@@ -30,7 +30,7 @@ pub record WholeRun (program : ShapedProgram) (a : Attributes) (old : List ℕ) 
 -- how it makes its choice: by the lines of the program's rule, which means this choice and these
 -- values; or, if the program isn't a rule's, by this number of instructions, with this last jump
 abbrev pub IsCourse : (a : Attributes) (program : ShapedProgram) → OptionalRule → (old : List ℕ)
-    → (choice count : ℕ) → (new : List ℕ) → WholeRun program a old choice count new → Course
+    → (choice count : ℕ) → (new : List ℕ) → WholeRun program a old choice count new → ChoiceCourse
     → Type 0
 IsCourse a program (Some rule) old choice count new run (ByRule lines) =
     ExplainsRule a program.shape rule old [] (string_bytes lines) choice new
@@ -41,7 +41,7 @@ IsCourse a program rule old choice count new run course = ⊥
 
 -- the explanation of a run
 pub record ExplainsCourse (program : ShapedProgram) (rule : OptionalRule) (a : Attributes)
-    (old : List ℕ) (choice : ℕ) (new : List ℕ) (course : Course) : Type 0 where
+    (old : List ℕ) (choice : ℕ) (new : List ℕ) (course : ChoiceCourse) : Type 0 where
   pub count : ℕ
   pub run : WholeRun program a old choice count new
   pub course_is : IsCourse a program rule old choice count new run course
@@ -49,12 +49,12 @@ pub record ExplainsCourse (program : ShapedProgram) (rule : OptionalRule) (a : A
 -- ---- as it is printed
 
 -- the lines of a rule are printed as they are. No clause says how a run is printed
-abbrev pub IsPrinted : Course → (lines : List ℕ) → Type 0
+abbrev pub IsPrinted : ChoiceCourse → (lines : List ℕ) → Type 0
 IsPrinted (ByRule lines) printed = printed ≡ string_bytes lines
 IsPrinted (ByRun instructions last_jump) printed = Unit {0}
 
 -- a text has the lines of a course, between others
-pub record PrintsCourse (course : Course) (text : List ℕ) : Type 0 where
+pub record PrintsCourse (course : ChoiceCourse) (text : List ℕ) : Type 0 where
   pub before : List ℕ
   pub lines : List ℕ
   pub after : List ℕ

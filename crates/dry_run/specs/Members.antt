@@ -7,8 +7,8 @@ use Rattle.serde_json.specs.Find.{get, as_array, as_number, as_object, as_str, a
 use Rattle.attrs.specs.Facts.{known_day}
 use Rattle.json_value.specs.Bytes.{json_of}
 use Rattle.omaha_json.specs.Request.{is_value}
-use Rattle.dry_run.specs.declared.wanted.Wanted.{Wanted}
-use Rattle.dry_run.specs.declared.wanted.Wanted.TheVariants as wanted
+use Rattle.dry_run.specs.declared.wanted.MemberKind.{MemberKind}
+use Rattle.dry_run.specs.declared.wanted.MemberKind.TheVariants as wanted
 
 -- a text that an attribute keeps
 abbrev pub is_short : Option (List ℕ) → Bool
@@ -16,7 +16,7 @@ is_short (Some text) = nat_le (length text) 1024
 is_short None = false
 
 -- a member with this value counts. The numbers of a version that is too long also count.
-abbrev pub fits : Wanted → Data → Bool
+abbrev pub fits : MemberKind → Data → Bool
 fits wanted.Text d = is_some (as_str d)
 fits wanted.Attribute d = is_short (as_str d)
 fits wanted.Version d = is_short (as_str d)

@@ -16,11 +16,11 @@ use Rattle.attrs.specs.declared.vocabulary.Attribute.TheVariants.{Version, Brand
 use Rattle.attrs.specs.declared.vocabulary.Attribute.TheVariants.{Cohort, Platform}
 use Rattle.omaha_json.specs.Request.{Request, all_facts, app_facts, request_facts, request_in}
 use Rattle.dry_run.specs.Members.{apps_written, fits, platform_written, request_written}
-use Rattle.dry_run.specs.declared.wanted.Wanted.{Wanted}
-use Rattle.dry_run.specs.declared.wanted.Wanted.TheVariants as wanted
+use Rattle.dry_run.specs.declared.wanted.MemberKind.{MemberKind}
+use Rattle.dry_run.specs.declared.wanted.MemberKind.TheVariants as wanted
 
 -- a member is absent; or it fits, and counts; or it doesn't fit, and counts as absent
-pub data IsNoted (is : Wanted) (counts : Data → Type 0) (is_absent : Type 0)
+pub data IsNoted (is : MemberKind) (counts : Data → Type 0) (is_absent : Type 0)
     : Option Data → Type 0 where
   not_there : is_absent → IsNoted is counts is_absent None
   it_counts : {d : Data} → fits is d ≡ true → counts d → IsNoted is counts is_absent (Some d)

@@ -15,13 +15,13 @@ use Rattle.cell_assignments.specs.Assignments.{Assignment}
 use Rattle.dry_run.specs.Counters.{AreAssigned}
 use Rattle.dry_run.specs.Courses.{ExplainsCourse, PrintsCourse}
 use Rattle.dry_run.specs.OnCounters.{RepliesOnCounters}
-use Rattle.dry_run.specs.declared.app_runs.Course.{Course}
+use Rattle.dry_run.specs.declared.app_runs.ChoiceCourse.{ChoiceCourse}
 use Rattle.dry_run.specs.declared.why_files.OpenedWhy.{OpenedWhy}
 
 -- the lines of an app that the ruleset runs, with the choice of that run
 pub record RunIsExplained (known : JudgedApp) (a : Attributes) (old : List ℕ) (choice : ℕ)
     (new text : List ℕ) : Type 0 where
-  pub course : Course
+  pub course : ChoiceCourse
   pub course_is : ExplainsCourse known.program known.rule a old choice new course
   pub prints : PrintsCourse course text
 
@@ -31,7 +31,7 @@ module _ (manifest : JudgedManifest) (facts : RequestFacts) (moment : ℤ) where
       : Type 0 where
     pub known : JudgedApp
     pub found : app_named manifest.apps.items app.appid ≡ Some known
-    pub course : Course
+    pub course : ChoiceCourse
     pub course_is : ExplainsCourse known.program known.rule (attributes_of app facts moment) old
         choice new course
     pub runs : RunsApp (rules_of manifest) facts moment app (Some choice) course_is.run.events

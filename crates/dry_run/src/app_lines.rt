@@ -5,7 +5,7 @@ ghost use Rattle.std.specs.Prelude.{◌≡◌, ◌-◌, ◌==◌, IfOk, None, if
 ghost use Rattle.std.specs.Prelude.{option_copied, string_bytes};
 ghost use Rattle.dry_run.specs.Courses as specs;
 
-use crate::app_runs::Course;
+use crate::app_runs::ChoiceCourse;
 use attrs::{AppFacts, Context, Text};
 use printing::Printed;
 use releases::Release;
@@ -84,13 +84,13 @@ fn bucket_source(flags: u8) -> &'static str {
 pub(crate) fn course_lines(
     alloc: Global,
     slots: usize,
-    course: Course,
+    course: ChoiceCourse,
 ) -> Result<String, AllocError>
     ensures { IfOk result (λ lines. specs.IsPrinted course (string_bytes lines)) }
 {
     match course {
-        Course::ByRule(lines) => Ok(lines),
-        Course::ByRun { count, last_jump } => {
+        ChoiceCourse::ByRule(lines) => Ok(lines),
+        ChoiceCourse::ByRun { count, last_jump } => {
             let line = run_line(alloc, slots, count, last_jump)?;
             Ok(line)
         }

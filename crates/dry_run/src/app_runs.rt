@@ -16,7 +16,7 @@ use why_choice::explain_rule;
 
 /// How a program makes its choice.
 #[derive(Drop)]
-pub(crate) enum Course {
+pub(crate) enum ChoiceCourse {
     /// By its rule, line by line.
     ByRule(String),
     /// By a run of this many instructions, with this last jump, if it isn't a rule's.
@@ -27,7 +27,7 @@ pub(crate) enum Course {
 #[derive(Drop)]
 pub(crate) struct ExplainedChoice {
     pub choice: u8,
-    pub course: Course,
+    pub course: ChoiceCourse,
 }
 
 /// How a program makes its choice.
@@ -65,7 +65,7 @@ fn explain_meaning(
     attrs.invariant_law();
     let mut text = String::new(alloc);
     let choice = explain_rule(alloc, &mut text, attrs, program.shape(), rule, counters)?;
-    let course = Course::ByRule(text);
+    let course = ChoiceCourse::ByRule(text);
     Ok(ExplainedChoice { choice, course })
 }
 
@@ -88,6 +88,6 @@ fn explain_run(
         count,
         last_jump,
     } = trace_on(alloc, program, attrs, counters)?;
-    let course = Course::ByRun { count, last_jump };
+    let course = ChoiceCourse::ByRun { count, last_jump };
     Ok(ExplainedChoice { choice, course })
 }

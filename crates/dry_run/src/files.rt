@@ -15,14 +15,14 @@ use std::alloc::Global;
 const MOST_BODY: u32 = 0x10_0000;
 
 /// A ruleset with the arrays of its manifest, and a body.
-pub struct Opened {
+pub struct OpenedFiles {
     pub rules: Ruleset,
     pub directory: Directory,
     pub body: Vec<u8>,
 }
 
 // Not derived: a crate that drops one would prove the drop of each of its parts anew.
-impl Drop for Opened {
+impl Drop for OpenedFiles {
     fn drop(self) {
         let Self {
             rules: _rules,
@@ -42,7 +42,7 @@ pub fn open_files<D: Disk>(
     disk: &D,
     manifest: &str,
     request: &str,
-) -> Result<Opened, DryRunFault>
+) -> Result<OpenedFiles, DryRunFault>
     ensures opened { IfOk result (λ o. specs.AreOpened (D.known disk.now) manifest.now request.now
         o.rules o.directory o.body.items) }
     ensures fault { IfErr result (specs.IsOpenFault (D.known disk.now) manifest.now request.now) }
@@ -52,7 +52,7 @@ pub fn open_files<D: Disk>(
         Err(fault) => return Err(DryRunFault::Manifest(fault)),
     };
     match read_body(disk, request) {
-        Ok(body) => Ok(Opened {
+        Ok(body) => Ok(OpenedFiles {
             rules,
             directory,
             body,

@@ -31,7 +31,7 @@ mod why_files;
 pub use app_lines::{no_request_app, unknown_app};
 pub use dry_run_fault::DryRunFault;
 pub use explained_app::{AppReasons, app_reasons};
-pub use files::{Opened, open_files};
+pub use files::{OpenedFiles, open_files};
 pub use laws::{
     explains_reply, has_one_reply, notes_are_so, opens_the_same, refuses_alike, sends_replies,
     sends_what_is_found,

@@ -6,7 +6,7 @@ ghost use Rattle.std.specs.Prelude.{◌≡◌, option_map};
 ghost use Rattle.serde_json.specs.View.{items_view, view};
 ghost use Rattle.dry_run.specs.Members as specs;
 
-use crate::wanted::{Wanted, fits};
+use crate::wanted::{MemberKind, fits};
 use json_value::read_json;
 use printing::TextBuffer;
 use serde_json::Value;
@@ -58,10 +58,16 @@ fn request_note(alloc: Global, request: &Value) -> Result<String, AllocError> {
     let os = request.get("os");
     let platform = platform_written(os);
     let mut note = TextBuffer::new(alloc);
-    push_member(&mut note, "", request, "requestid", Wanted::Text);
-    push_member(&mut note, "", request, "sessionid", Wanted::Text);
-    push_note(&mut note, "", "os", Wanted::Object, os);
-    push_note(&mut note, "", "os.platform", Wanted::Attribute, platform);
+    push_member(&mut note, "", request, "requestid", MemberKind::Text);
+    push_member(&mut note, "", request, "sessionid", MemberKind::Text);
+    push_note(&mut note, "", "os", MemberKind::Object, os);
+    push_note(
+        &mut note,
+        "",
+        "os.platform",
+        MemberKind::Attribute,
+        platform,
+    );
     note.finish()
 }
 
@@ -100,19 +106,19 @@ fn apps_written(request: &Value) -> Option<&Vec<Value>>
 
 fn app_note(alloc: Global, app: &Value) -> Result<String, AllocError> {
     let mut note = TextBuffer::new(alloc);
-    push_member(&mut note, "  ", app, "version", Wanted::Version);
-    push_member(&mut note, "  ", app, "brand", Wanted::Attribute);
-    push_member(&mut note, "  ", app, "ap", Wanted::Attribute);
-    push_member(&mut note, "  ", app, "lang", Wanted::Attribute);
-    push_member(&mut note, "  ", app, "cohort", Wanted::Attribute);
-    push_member(&mut note, "  ", app, "installdate", Wanted::Day);
-    push_member(&mut note, "  ", app, "updatecheck", Wanted::Value);
-    push_member(&mut note, "  ", app, "ping", Wanted::Value);
-    push_member(&mut note, "  ", app, "event", Wanted::Value);
+    push_member(&mut note, "  ", app, "version", MemberKind::Version);
+    push_member(&mut note, "  ", app, "brand", MemberKind::Attribute);
+    push_member(&mut note, "  ", app, "ap", MemberKind::Attribute);
+    push_member(&mut note, "  ", app, "lang", MemberKind::Attribute);
+    push_member(&mut note, "  ", app, "cohort", MemberKind::Attribute);
+    push_member(&mut note, "  ", app, "installdate", MemberKind::Day);
+    push_member(&mut note, "  ", app, "updatecheck", MemberKind::Value);
+    push_member(&mut note, "  ", app, "ping", MemberKind::Value);
+    push_member(&mut note, "  ", app, "event", MemberKind::Value);
     note.finish()
 }
 
-fn push_member(note: &mut TextBuffer, indent: &str, of: &Value, name: &str, wanted: Wanted) {
+fn push_member(note: &mut TextBuffer, indent: &str, of: &Value, name: &str, wanted: MemberKind) {
     push_note(note, indent, name, wanted, of.get(name));
 }
 
@@ -121,7 +127,7 @@ fn push_note(
     note: &mut TextBuffer,
     indent: &str,
     name: &str,
-    wanted: Wanted,
+    wanted: MemberKind,
     member: Option<&Value>,
 ) {
     let Some(value) = member else {
@@ -137,14 +143,20 @@ fn push_note(
 }
 
 // The line of a text with this number of bytes.
-fn push_text_note(note: &mut TextBuffer, indent: &str, name: &str, wanted: Wanted, bytes: usize) {
+fn push_text_note(
+    note: &mut TextBuffer,
+    indent: &str,
+    name: &str,
+    wanted: MemberKind,
+    bytes: usize,
+) {
     match wanted {
-        Wanted::Version => {
+        MemberKind::Version => {
             note.push_all(&[indent, name, " has "]);
             note.push_value(&bytes);
             note.push(" bytes: as an attribute it is the empty text\n");
         }
-        Wanted::Attribute => {
+        MemberKind::Attribute => {
             note.push_all(&[indent, "ignored: ", name, " has "]);
             note.push_value(&bytes);
             note.push(" bytes, where at most 1024 are wanted\n");
@@ -154,17 +166,17 @@ fn push_text_note(note: &mut TextBuffer, indent: &str, name: &str, wanted: Wante
 }
 
 // The line of a member that is of another kind.
-fn push_kind_note(note: &mut TextBuffer, indent: &str, name: &str, wanted: Wanted, kind: &str) {
+fn push_kind_note(note: &mut TextBuffer, indent: &str, name: &str, wanted: MemberKind, kind: &str) {
     note.push_all(&[indent, "ignored: ", name, " is ", kind]);
     match wanted {
-        Wanted::Text | Wanted::Attribute | Wanted::Version => {
+        MemberKind::Text | MemberKind::Attribute | MemberKind::Version => {
             note.push(", where a text is wanted\n");
         }
-        Wanted::Day => {
+        MemberKind::Day => {
             note.push(", where a whole number from 0 to 4294967294 is wanted\n");
         }
-        Wanted::Object => note.push(", where an object is wanted\n"),
-        Wanted::Value => note.push(", which counts as absent\n"),
+        MemberKind::Object => note.push(", where an object is wanted\n"),
+        MemberKind::Value => note.push(", which counts as absent\n"),
     }
 }
 

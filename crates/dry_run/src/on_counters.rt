@@ -6,7 +6,7 @@ ghost use Rattle.dry_run.specs.OnCounters as specs;
 
 use crate::counters::{set_cells, set_declared, zero_counters};
 use crate::dry_run_fault::DryRunFault;
-use crate::files::Opened;
+use crate::files::OpenedFiles;
 use crate::reply::find_reply;
 use attrs::Moment;
 use bounded_files::ResourceFault;
@@ -21,7 +21,7 @@ use std::alloc::Global;
 // open: whether an allocation fails (B4, O5).
 pub fn reply_on_counters(
     alloc: Global,
-    opened: &Opened,
+    opened: &OpenedFiles,
     moment: &Moment,
     served: &[CellAssignment<'_>],
     words: &[CellAssignment<'_>],

@@ -15,7 +15,7 @@ const MOST_KEPT: usize = 1024;
 
 /// What a member has to be.
 #[derive(Clone, Copy)]
-pub(crate) enum Wanted {
+pub(crate) enum MemberKind {
     /// A text.
     Text,
     /// A text of at most 1024 bytes, which rules can test as an attribute.
@@ -31,16 +31,16 @@ pub(crate) enum Wanted {
 }
 
 /// Whether a member with this value counts.
-pub(crate) fn fits(wanted: Wanted, value: &Value) -> bool
+pub(crate) fn fits(wanted: MemberKind, value: &Value) -> bool
     ensures { result ≡ specs.fits wanted (view value.now) }
 {
     match wanted {
-        Wanted::Text => value.as_str().is_some(),
-        Wanted::Attribute => is_short(value),
-        Wanted::Version => is_short(value),
-        Wanted::Day => is_known(value.as_u64()),
-        Wanted::Object => value.as_object().is_some(),
-        Wanted::Value => is_value(value),
+        MemberKind::Text => value.as_str().is_some(),
+        MemberKind::Attribute => is_short(value),
+        MemberKind::Version => is_short(value),
+        MemberKind::Day => is_known(value.as_u64()),
+        MemberKind::Object => value.as_object().is_some(),
+        MemberKind::Value => is_value(value),
     }
 }
 

@@ -4,12 +4,12 @@ use Rattle.std.specs.Prelude.{codes, Bool, true, not, if◌then◌else◌, Resul
 use Rattle.attrs.specs.Attributes.{Attributes}
 use Rattle.cells.specs.Arrays.{AppShape}
 use Rattle.rule_lang.specs.Trees.{Tree, Both, Either}
-use Rattle.why_choice.specs.Parts.{Part, IsPartOf, followed, given_back}
+use Rattle.why_choice.specs.Parts.{PartReport, IsPartOf, followed, given_back}
 use Rattle.why_choice.specs.Reading.{Reading, read_after, read_tree}
 use Rattle.why_choice.proofs.Back.{back_by_parts}
 use Rattle.why_choice.proofs.Conditions.{if_not}
 
-followed_is : (r q : Reading) (old mid new : List ℕ) (first second : Part)
+followed_is : (r q : Reading) (old mid new : List ℕ) (first second : PartReport)
     → IsPartOf r old first mid → IsPartOf q mid second new
     → IsPartOf (read_after r q) old (followed first second) new
 followed_is r q old mid new first second a b = record {
@@ -23,7 +23,7 @@ followed_is r q old mid new first second a b = record {
 }
 
 pub followed_made : {E : Type 0} (counts : Bool) (r q : Reading) (old mid new : List ℕ)
-    (first second : Part) (made : Result Part E) → counts ≡ true
+    (first second : PartReport) (made : Result PartReport E) → counts ≡ true
     → IfOk made (λ p. p ≡ followed first second)
     → IsPartOf r old first mid → IsPartOf q mid second new
     → IfOk made (λ p. IsPartOf (if counts then read_after r q else r) old p new)
@@ -45,8 +45,8 @@ module _ (a : Attributes) (s : AppShape) where
   either_is r holds between c h l =
       rw h (rw l (sym (if_not r.holds r (read_after r (read_tree a s r.counters c)))))
 
-  module _ {E : Type 0} (b c : Tree) (first : Part) (holds : Bool) (same : holds ≡ first.holds)
-      (made : Result Part E) (old between new : List ℕ)
+  module _ {E : Type 0} (b c : Tree) (first : PartReport) (holds : Bool)
+      (same : holds ≡ first.holds) (made : Result PartReport E) (old between new : List ℕ)
       (is : IsPartOf (read_tree a s old b) old first between) where
     abbrev r : Reading
     r = read_tree a s old b

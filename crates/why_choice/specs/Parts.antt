@@ -23,7 +23,7 @@ taken_at counters (Some cell) =
 taken_at counters None = []
 
 -- a part: its report, whether it holds, and its takes in order
-pub record Part : Type 0 where
+pub record PartReport : Type 0 where
   pub text : List ℕ
   pub holds : Bool
   pub taken : List CellTake
@@ -34,11 +34,11 @@ given_back [] counters = counters
 given_back (t ∷ ts) counters = slice_set (given_back ts counters) t.cell t.value
 
 -- a part under `not`
-abbrev pub negated : Part → Part
+abbrev pub negated : PartReport → PartReport
 negated p = record p { text = negated_text p.text; holds = not p.holds }
 
 -- a part followed by another
-abbrev pub followed : Part → Part → Part
+abbrev pub followed : PartReport → PartReport → PartReport
 followed first second = record {
   text = first.text ++ codes "; " ++ second.text;
   holds = second.holds;
@@ -47,7 +47,7 @@ followed first second = record {
 
 -- the part agrees with a reading: it was evaluated on counters with these values, left the
 -- reading's values, and its takes can be undone
-pub record IsPartOf (r : Reading) (old : List ℕ) (p : Part) (new : List ℕ) : Type 0 where
+pub record IsPartOf (r : Reading) (old : List ℕ) (p : PartReport) (new : List ℕ) : Type 0 where
   pub text : p.text ≡ r.text
   pub holds : p.holds ≡ r.holds
   pub left : new ≡ r.counters
@@ -55,7 +55,7 @@ pub record IsPartOf (r : Reading) (old : List ℕ) (p : Part) (new : List ℕ) :
 
 module _ (a : Attributes) (s : AppShape) where
   -- the part of a test
-  abbrev pub tested : (counters : List ℕ) → Test → Part
+  abbrev pub tested : (counters : List ℕ) → Test → PartReport
   tested counters t = record {
     text = tested_text a s (value_at counters (cell_used s t)) (holds_on a s counters t) t;
     holds = holds_on a s counters t;

@@ -4,7 +4,7 @@ ghost use Rattle.std.specs.Prelude.{◌≡◌, IfOk, OnOk, if◌then◌else◌};
 ghost use Rattle.why_choice.specs.Parts.{IsPartOf};
 ghost use Rattle.why_choice.specs.Reading.{Reading, read_after, read_steps, read_tree};
 
-use crate::part::{Part, followed, negated, read_test, without};
+use crate::part::{PartReport, followed, negated, read_test, without};
 use attrs::Attrs;
 use cells::{PlainPass, Shape};
 use rule_eval::{ConditionFold, fold};
@@ -21,24 +21,34 @@ struct Evaluation<'a> {
 impl ConditionFold for Evaluation<'_> {
     type State = PlainPass;
 
-    type Part = Part;
+    type Part = PartReport;
 
     ghost evaluates = { λ by old c p new.
         IsPartOf (read_tree by.attrs.now by.shape.now old c) old p new };
 
-    fn test(&self, counters: &mut PlainPass, test: &Test) -> Result<Part, AllocError> {
+    fn test(&self, counters: &mut PlainPass, test: &Test) -> Result<PartReport, AllocError> {
         read_test(self.alloc, self.attrs, self.shape, counters, test)
     }
 
-    fn not(&self, part: Part) -> Result<Part, AllocError> {
+    fn not(&self, part: PartReport) -> Result<PartReport, AllocError> {
         negated(self.alloc, part)
     }
 
-    fn and(&self, counters: &mut PlainPass, first: Part, second: Part) -> Result<Part, AllocError> {
+    fn and(
+        &self,
+        counters: &mut PlainPass,
+        first: PartReport,
+        second: PartReport,
+    ) -> Result<PartReport, AllocError> {
         joined(first.holds, first, second, counters)
     }
 
-    fn or(&self, counters: &mut PlainPass, first: Part, second: Part) -> Result<Part, AllocError> {
+    fn or(
+        &self,
+        counters: &mut PlainPass,
+        first: PartReport,
+        second: PartReport,
+    ) -> Result<PartReport, AllocError> {
         joined(!first.holds, first, second, counters)
     }
 }
@@ -46,10 +56,10 @@ impl ConditionFold for Evaluation<'_> {
 // Joins two parts, of which the second counts or doesn't.
 fn joined(
     counts: bool,
-    first: Part,
-    second: Part,
+    first: PartReport,
+    second: PartReport,
     counters: &mut PlainPass,
-) -> Result<Part, AllocError>
+) -> Result<PartReport, AllocError>
     ensures { (r q : Reading) (before between : _) → IsPartOf r before first between
         → IsPartOf q between second counters.old → IfOk result
         (λ p. IsPartOf (if counts then read_after r q else r) before p counters.new) }
@@ -68,7 +78,7 @@ pub(crate) fn read_condition(
     shape: &Shape,
     counters: &mut PlainPass,
     condition: &RuleCondition,
-) -> Result<Part, AllocError>
+) -> Result<PartReport, AllocError>
     ensures text { IfOk result (λ p.
         p.text ≡ (read_steps attrs.now shape.now counters.old condition.now).text) }
     ensures holds { IfOk result (λ p.

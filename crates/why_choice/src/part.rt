@@ -19,17 +19,17 @@ use std::marker::Model;
 
 /// The report on a part of a condition, whether it holds, and its takes in order.
 #[derive(Drop)]
-pub(crate) struct Part {
+pub(crate) struct PartReport {
     pub text: String,
     pub holds: bool,
     taken: Vec<CellTake>,
 }
 
-impl Model for Part {
+impl Model for PartReport {
     ghost use Rattle.std.specs.Prelude.{string_bytes};
     ghost use Rattle.why_choice.specs.Parts as specs;
 
-    ghost Value = { specs.Part };
+    ghost Value = { specs.PartReport };
 
     ghost view = { λ p. record {
       text = string_bytes p.text;
@@ -76,7 +76,7 @@ pub(crate) fn read_test(
     shape: &Shape,
     counters: &mut PlainPass,
     test: &Test,
-) -> Result<Part, AllocError>
+) -> Result<PartReport, AllocError>
     ensures part { IfOk result (λ p.
         p ≡ specs.tested attrs.now shape.now counters.old test.now) }
     ensures left { OnOk result
@@ -87,14 +87,14 @@ pub(crate) fn read_test(
     let holds = test_holds(attrs, shape, value, test);
     let mut text = String::new(alloc);
     push_tested(&mut text, attrs, shape, value, holds, test)?;
-    Ok(Part { text, holds, taken })
+    Ok(PartReport { text, holds, taken })
 }
 
 /// The first part, followed by the second.
-pub(crate) fn followed(first: Part, second: Part) -> Result<Part, AllocError>
+pub(crate) fn followed(first: PartReport, second: PartReport) -> Result<PartReport, AllocError>
     ensures { IfOk result (λ p. p ≡ specs.followed first second) }
 {
-    let Part {
+    let PartReport {
         mut text,
         holds: _first_holds,
         mut taken,
@@ -102,7 +102,7 @@ pub(crate) fn followed(first: Part, second: Part) -> Result<Part, AllocError>
     text.push_str("; ")?;
     text.push_str(second.text.as_str())?;
     taken.extend_from_slice(second.taken.as_slice())?;
-    Ok(Part {
+    Ok(PartReport {
         text,
         holds: second.holds,
         taken,
@@ -120,11 +120,11 @@ fn give_back(taken: Vec<CellTake>, counters: &mut PlainPass)
 }
 
 /// Drops the second part, which doesn't count.
-pub(crate) fn without(first: Part, second: Part, counters: &mut PlainPass) -> Part
+pub(crate) fn without(first: PartReport, second: PartReport, counters: &mut PlainPass) -> PartReport
     ensures part { result ≡ first }
     ensures back { counters.new ≡ specs.given_back second.taken counters.old }
 {
-    let Part {
+    let PartReport {
         text: _text,
         holds: _holds,
         taken,
@@ -134,17 +134,17 @@ pub(crate) fn without(first: Part, second: Part, counters: &mut PlainPass) -> Pa
 }
 
 /// A part under `not`.
-pub(crate) fn negated(alloc: Global, part: Part) -> Result<Part, AllocError>
+pub(crate) fn negated(alloc: Global, part: PartReport) -> Result<PartReport, AllocError>
     ensures { IfOk result (λ p. p ≡ specs.negated part) }
 {
-    let Part {
+    let PartReport {
         text: report,
         holds,
         taken,
     } = part;
     let mut text = String::new(alloc);
     push_negated(&mut text, report.as_str())?;
-    Ok(Part {
+    Ok(PartReport {
         text,
         holds: !holds,
         taken,

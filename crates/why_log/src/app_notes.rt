@@ -2,7 +2,7 @@
 //! the line lacks. No clause says which words; rows compare them.
 
 use crate::line_app::is_named;
-use crate::served::Generation;
+use crate::served::LoggedGeneration;
 use printing::TextBuffer;
 use report::{flag_in, number_in, text_in};
 use serde_json::Value;
@@ -40,7 +40,7 @@ pub(crate) fn app_note(
     alloc: Global,
     app: &Value,
     is_short: bool,
-    served: &Generation,
+    served: &LoggedGeneration,
 ) -> Result<AppNote, AllocError> {
     let is_unknown = flag_in(app, "unknown").unwrap_or(false);
     let choice = number_in(app, "choice");

@@ -12,7 +12,7 @@ use crate::explained_apps::explain_apps;
 use crate::finding::FoundLine;
 use crate::line_head::{LineNotes, line_notes};
 use crate::line_request::{LineRequest, request_in};
-use crate::served::Generation;
+use crate::served::LoggedGeneration;
 use bounded_files::ResourceFault;
 use cell_assignments::CellAssignment;
 use cells::PlainPass;
@@ -57,7 +57,7 @@ fn line_text(
     alloc: Global,
     manifest: &JudgedManifest,
     digest: &str,
-    served: &Generation,
+    served: &LoggedGeneration,
     line: &[u8],
     counters: &mut PlainPass,
 ) -> Result<String, AllocError>
@@ -79,7 +79,7 @@ fn event_text(
     alloc: Global,
     manifest: &JudgedManifest,
     digest: &str,
-    served: &Generation,
+    served: &LoggedGeneration,
     event: &Value,
     counters: &mut PlainPass,
 ) -> Result<String, AllocError>

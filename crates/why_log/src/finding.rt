@@ -5,7 +5,7 @@ ghost use Rattle.serde_json.specs.View.{view};
 ghost use Rattle.why_log.specs.Found as specs;
 
 use crate::machine::Machine;
-use crate::served::{Generation, ServedGenerations};
+use crate::served::{LoggedGeneration, ServedGenerations};
 use json_value::read_json;
 use report::number_in;
 use serde_json::Value;
@@ -17,7 +17,7 @@ pub(crate) struct FoundLine {
     /// The line, without its line feed.
     pub(crate) bytes: Vec<u8>,
     /// What was served then.
-    pub(crate) served: Generation,
+    pub(crate) served: LoggedGeneration,
 }
 
 /// The lines of a machine that were found: the newest ones.
@@ -100,7 +100,7 @@ impl FoundLines {
     }
 }
 
-fn found_line(alloc: Global, line: &[u8], served: Generation) -> Result<FoundLine, AllocError>
+fn found_line(alloc: Global, line: &[u8], served: LoggedGeneration) -> Result<FoundLine, AllocError>
     ensures { IfOk result (λ found. found.bytes.items ≡ line.now) }
 {
     match Vec::from_slice(alloc, line) {

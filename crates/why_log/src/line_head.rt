@@ -3,7 +3,7 @@
 
 use crate::app_notes::{AppNote, app_note};
 use crate::line_request::listed_in;
-use crate::served::Generation;
+use crate::served::LoggedGeneration;
 use printing::TextBuffer;
 use report::{flag_in, number_in, text_in};
 use serde_json::Value;
@@ -24,7 +24,7 @@ pub(crate) fn line_notes(
     alloc: Global,
     line: &Value,
     digest: &str,
-    served: &Generation,
+    served: &LoggedGeneration,
 ) -> Result<LineNotes, AllocError> {
     let apps = app_notes(alloc, line, served)?;
     let head = head_lines(alloc, line, digest, served)?;
@@ -35,7 +35,7 @@ fn head_lines(
     alloc: Global,
     line: &Value,
     digest: &str,
-    served: &Generation,
+    served: &LoggedGeneration,
 ) -> Result<String, AllocError> {
     let mut text = TextBuffer::new(alloc);
     text.push_printed("", text_in(line, "time").unwrap_or(""), "");
@@ -96,7 +96,11 @@ fn push_manifest(text: &mut TextBuffer, digest: &str, logged: Option<&str>) {
 }
 
 // What the line says of each app, in order.
-fn app_notes(alloc: Global, line: &Value, served: &Generation) -> Result<Vec<AppNote>, AllocError> {
+fn app_notes(
+    alloc: Global,
+    line: &Value,
+    served: &LoggedGeneration,
+) -> Result<Vec<AppNote>, AllocError> {
     let is_short = number_in(line, "more_left_out").is_some();
     let apps = listed_in(line);
     let mut notes = Vec::with_capacity(alloc, apps.len())?;

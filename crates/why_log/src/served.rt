@@ -8,7 +8,7 @@ use std::mem;
 
 /// A generation, as far as the log has it.
 #[derive(Drop)]
-pub(crate) struct Generation {
+pub(crate) struct LoggedGeneration {
     number: Option<u64>,
     /// The digest of its manifest, in hexadecimal digits.
     digest: Option<String>,
@@ -16,10 +16,10 @@ pub(crate) struct Generation {
     halted: Vec<String>,
 }
 
-impl Generation {
+impl LoggedGeneration {
     // Nothing is known of it.
-    fn unknown(alloc: Global) -> Generation {
-        Generation {
+    fn unknown(alloc: Global) -> LoggedGeneration {
+        LoggedGeneration {
             number: None,
             digest: None,
             halted: Vec::new(alloc),
@@ -48,16 +48,16 @@ impl Generation {
 /// The newest generation of a log so far, and the one before, whose requests may still end.
 #[derive(Drop)]
 pub(crate) struct ServedGenerations {
-    newest: Generation,
-    before: Generation,
+    newest: LoggedGeneration,
+    before: LoggedGeneration,
 }
 
 impl ServedGenerations {
     /// Before the first line.
     pub(crate) fn new(alloc: Global) -> ServedGenerations {
         ServedGenerations {
-            newest: Generation::unknown(alloc),
-            before: Generation::unknown(alloc),
+            newest: LoggedGeneration::unknown(alloc),
+            before: LoggedGeneration::unknown(alloc),
         }
     }
 
@@ -83,18 +83,18 @@ impl ServedGenerations {
         &self,
         alloc: Global,
         number: Option<u64>,
-    ) -> Result<Generation, AllocError> {
+    ) -> Result<LoggedGeneration, AllocError> {
         if number.is_some() && self.newest.number == number {
             return copied(alloc, &self.newest);
         }
         if number.is_some() && self.before.number == number {
             return copied(alloc, &self.before);
         }
-        Ok(Generation::unknown(alloc))
+        Ok(LoggedGeneration::unknown(alloc))
     }
 
     // A generation begins.
-    fn begin(&mut self, next: Generation) {
+    fn begin(&mut self, next: LoggedGeneration) {
         self.before = mem::replace(&mut self.newest, next);
     }
 
@@ -104,7 +104,7 @@ impl ServedGenerations {
             return Ok(());
         }
         let digest = owned(alloc, text_in(line, "digest"))?;
-        self.begin(Generation {
+        self.begin(LoggedGeneration {
             number: None,
             digest,
             halted: Vec::new(alloc),
@@ -120,7 +120,7 @@ impl ServedGenerations {
         }
         let halted = others(alloc, &self.newest.halted, None)?;
         let digest = owned(alloc, text_in(line, "digest"))?;
-        self.begin(Generation {
+        self.begin(LoggedGeneration {
             number,
             digest,
             halted,
@@ -144,7 +144,7 @@ impl ServedGenerations {
             halted.push(app)?;
         }
         let digest = owned(alloc, self.newest.digest())?;
-        self.begin(Generation {
+        self.begin(LoggedGeneration {
             number,
             digest,
             halted,
@@ -153,10 +153,10 @@ impl ServedGenerations {
     }
 }
 
-fn copied(alloc: Global, generation: &Generation) -> Result<Generation, AllocError> {
+fn copied(alloc: Global, generation: &LoggedGeneration) -> Result<LoggedGeneration, AllocError> {
     let halted = others(alloc, &generation.halted, None)?;
     let digest = owned(alloc, generation.digest())?;
-    Ok(Generation {
+    Ok(LoggedGeneration {
         number: generation.number,
         digest,
         halted,

@@ -4,7 +4,7 @@ ghost use Rattle.std.specs.Prelude.{◌≡◌, [], false, string_bytes};
 ghost use Rattle.why_refused_manifest.specs.Inside as specs;
 
 use crate::inside::is_inside;
-use crate::shown::{Place, show};
+use crate::shown::{FaultPlace, show};
 use load::AppSources;
 use manifest::ProgramSource;
 use printing::TextBuffer;
@@ -16,7 +16,7 @@ pub(crate) fn push_file_reason(
     text: &mut TextBuffer,
     apps: &[AppSources],
     number: usize,
-    place: Place,
+    place: FaultPlace,
 ) {
     let Some(app) = apps.get(number.saturating_sub(1)) else {
         text.leave_out();
@@ -33,7 +33,7 @@ pub(crate) fn push_file_reason(
 }
 
 // The place in the file; nothing, if the file isn't in the manifest's folder, or out of memory.
-fn show_inside(alloc: Global, place: Place, app: &AppSources) -> String
+fn show_inside(alloc: Global, place: FaultPlace, app: &AppSources) -> String
     ensures { specs.lies_inside app.now ≡ false → string_bytes result ≡ [] }
 {
     if !lies_inside(app) {

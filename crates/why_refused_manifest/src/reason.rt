@@ -2,7 +2,7 @@
 
 use crate::advice::advice;
 use crate::file::push_file_reason;
-use crate::shown::Place;
+use crate::shown::FaultPlace;
 use acceptance::{ProgramFault, RuleTextFault};
 use bpf_verify::Refusal;
 use cells::CellsFault;
@@ -28,7 +28,13 @@ pub(crate) fn reason_of(
         LoadFault::Manifest(fault) => push_manifest_reason(
             alloc, &mut text, parsed, is_link, fault,
         ),
-        LoadFault::File { app } => push_file_reason(alloc, &mut text, apps, *app, Place::Whole),
+        LoadFault::File { app } => push_file_reason(
+            alloc,
+            &mut text,
+            apps,
+            *app,
+            FaultPlace::Whole,
+        ),
         LoadFault::Program { app, fault } => {
             push_file_reason(alloc, &mut text, apps, *app, slot_of(fault))
         }
@@ -86,18 +92,18 @@ fn push_toml_reason(alloc: Global, text: &mut TextBuffer, parsed: &Parsed, is_li
     text.push("tables begin with [[array]], [[app]], [[app.release]] or [[app.release.package]]\n");
 }
 
-fn slot_of(fault: &ProgramFault) -> Place {
+fn slot_of(fault: &ProgramFault) -> FaultPlace {
     match fault {
-        ProgramFault::Flow(FlowFault::Rule { slot, .. }) => Place::Slot(*slot),
-        ProgramFault::Verify(Refusal::Rule { slot, .. }) => Place::Refused(*slot),
-        _ => Place::Whole,
+        ProgramFault::Flow(FlowFault::Rule { slot, .. }) => FaultPlace::Slot(*slot),
+        ProgramFault::Verify(Refusal::Rule { slot, .. }) => FaultPlace::Refused(*slot),
+        _ => FaultPlace::Whole,
     }
 }
 
-fn rule_place(fault: &RuleTextFault) -> Place {
+fn rule_place(fault: &RuleTextFault) -> FaultPlace {
     match fault {
-        RuleTextFault::Text(RuleFault::At { line, kind }) => Place::Rule(*line, *kind),
-        _ => Place::Whole,
+        RuleTextFault::Text(RuleFault::At { line, kind }) => FaultPlace::Rule(*line, *kind),
+        _ => FaultPlace::Whole,
     }
 }
 

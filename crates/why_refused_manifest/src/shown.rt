@@ -15,7 +15,7 @@ use why_refused_rule::{line_text, rule_fault_message, rule_too_long};
 
 /// A place in the file of an app.
 #[derive(Clone, Copy)]
-pub(crate) enum Place {
+pub(crate) enum FaultPlace {
     /// The whole file.
     Whole,
     /// The instruction that begins at a slot; of an ELF object, the whole file.
@@ -30,7 +30,7 @@ pub(crate) enum Place {
 /// place or an allocation fails.
 pub(crate) fn show(
     alloc: Global,
-    place: Place,
+    place: FaultPlace,
     shape: &Shape,
     kept: &Option<KeptBytes>,
 ) -> Option<String> {
@@ -48,21 +48,26 @@ pub(crate) fn show(
 }
 
 // For a file that is longer than it may be.
-fn show_longer(alloc: Global, place: Place, beginning: &[u8], is_text: bool) -> Option<String> {
+fn show_longer(
+    alloc: Global,
+    place: FaultPlace,
+    beginning: &[u8],
+    is_text: bool,
+) -> Option<String> {
     match place {
-        Place::Whole | Place::Refused(_) => None,
-        Place::Slot(slot) => show_slot(alloc, slot, beginning),
-        Place::Rule(_, _) if is_text => String::from_str(alloc, rule_too_long()).ok(),
-        Place::Rule(_, _) => show_no_text(alloc),
+        FaultPlace::Whole | FaultPlace::Refused(_) => None,
+        FaultPlace::Slot(slot) => show_slot(alloc, slot, beginning),
+        FaultPlace::Rule(_, _) if is_text => String::from_str(alloc, rule_too_long()).ok(),
+        FaultPlace::Rule(_, _) => show_no_text(alloc),
     }
 }
 
-fn show_whole(alloc: Global, place: Place, shape: &Shape, bytes: &[u8]) -> Option<String> {
+fn show_whole(alloc: Global, place: FaultPlace, shape: &Shape, bytes: &[u8]) -> Option<String> {
     match place {
-        Place::Whole => None,
-        Place::Slot(slot) => show_slot(alloc, slot, bytes),
-        Place::Refused(slot) => show_refused(alloc, shape, slot, bytes),
-        Place::Rule(line, kind) => match str::from_utf8(bytes) {
+        FaultPlace::Whole => None,
+        FaultPlace::Slot(slot) => show_slot(alloc, slot, bytes),
+        FaultPlace::Refused(slot) => show_refused(alloc, shape, slot, bytes),
+        FaultPlace::Rule(line, kind) => match str::from_utf8(bytes) {
             Ok(text) => show_rule(alloc, shape, line, kind, text),
             Err(_) => show_no_text(alloc),
         },

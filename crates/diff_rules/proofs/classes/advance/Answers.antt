@@ -1,5 +1,5 @@
 use Rattle.std.proofs.Common.{List, [], ◌∷◌, ◌++◌, ◌∙◌, ap, subst, sym}
-use Rattle.diff_rules.specs.Classes.{Class}
+use Rattle.diff_rules.specs.Classes.{PlaceClass}
 use Rattle.diff_rules.specs.Search.{LosesNoMachine, pair_run}
 use Rattle.diff_rules.specs.Stack.{plan_run}
 use Rattle.diff_rules.specs.Truths.{PartialPlace}
@@ -16,7 +16,7 @@ returns-in_ok-add_class-in-Both c = λ done.
     let gives = ap (λ (k : PartialPlace). pair_run (plan_run space.dimensions k [] space.old)
     (plan_run space.dimensions k [] space.new)) (sym partial)
     ∙ sym c.in_ok-now.ensures ∙ c.in-Both.is in
-    subst (λ (cs : List Class). LosesNoMachine space classes (left ++ pending ∷ []) cs left)
+    subst (λ (cs : List PlaceClass). LosesNoMachine space classes (left ++ pending ∷ []) cs left)
     (sym c.in_ok-add_class-in-Both.ensures)
     (class_loses_none space classes left pending c.in-Both.now c.in-Both.next gives)
 
