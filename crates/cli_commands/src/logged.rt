@@ -12,7 +12,7 @@ use crate::serve_fault::ServeRefusal;
 use bounded_files::Disk;
 use cli_words::{ServeArgs, ServePlan};
 use counters_file::DeviceFile;
-use server_counters::{Counters, Found};
+use server_counters::{Counters, FoundFile};
 use server_log::{
     LogOutput, LogQueue, Starting, note_refused_start, note_start, start_log, write_refused_start,
 };
@@ -122,7 +122,7 @@ fn service_of<'a>(plan: &ServePlan, log: Option<&'a LogQueue>) -> ServeOptions<'
 
 // A server that starts, and how the file of its counters was found. No port of a plan is 0, so the
 // server has these ports.
-fn starting_of<'x>(args: &ServeArgs<'x>, found: Option<Found>) -> Starting<'x> {
+fn starting_of<'x>(args: &ServeArgs<'x>, found: Option<FoundFile>) -> Starting<'x> {
     let counters: Option<&'x str> = word_of(found);
     Starting {
         manifest: args.manifest,
@@ -132,11 +132,11 @@ fn starting_of<'x>(args: &ServeArgs<'x>, found: Option<Found>) -> Starting<'x> {
     }
 }
 
-fn word_of<'x>(found: Option<Found>) -> Option<&'x str> {
+fn word_of<'x>(found: Option<FoundFile>) -> Option<&'x str> {
     match found {
-        Some(Found::New) => Some("new"),
-        Some(Found::Stopped) => Some("stopped"),
-        Some(Found::Crashed) => Some("crashed"),
+        Some(FoundFile::New) => Some("new"),
+        Some(FoundFile::Stopped) => Some("stopped"),
+        Some(FoundFile::Crashed) => Some("crashed"),
         None => None,
     }
 }

@@ -11,7 +11,7 @@ use cli_words::ServeArgs;
 use counter_store::CounterStore;
 use counters_file::{CountersFault, DeviceFile};
 use server_counters::{
-    Counters, Found, Opened, Opening, OwnFile, open_file, opened_within, store_of,
+    Counters, FoundFile, OpeningCounters, OwnCounters, OwnFile, open_file, opened_within, store_of,
 };
 use serving::{Server, ServingFault, prepare};
 use std::alloc::Global;
@@ -25,7 +25,7 @@ use std::time::Clock;
 #[derive(Drop)]
 pub struct KeptServer<'a, R> {
     pub server: Server,
-    pub found: Option<Found>,
+    pub found: Option<FoundFile>,
     pub store: Option<CounterStore<DeviceFile<'a, R>>>,
     pub ghost numbers: { IfSome store
         (λ s. s.ledger.numbers ≡ server.values.items) } by { Prim.hlevel props },
@@ -119,7 +119,7 @@ where
         (Some turn.file.said.value) turn.server) }
     ensures fault { IfErr result (IsRefused (D.known disk.now) args.now) }
 {
-    let Opening { file, counters } = match open_file(rt, path, args.plan.wait.is_some()) {
+    let OpeningCounters { file, counters } = match open_file(rt, path, args.plan.wait.is_some()) {
         Ok(opening) => opening,
         Err(fault) => return Err(ServeRefusal::Counters(fault)),
     };
@@ -162,7 +162,11 @@ where
         (Some turn.file.said.value) turn.server) }
     ensures fault { IfErr result (IsRefused (D.known disk.now) args.now) }
 {
-    let Opened { file, counters } = match opened_within(rt, path, args.plan.wait.unwrap_or(0)) {
+    let OwnCounters { file, counters } = match opened_within(
+        rt,
+        path,
+        args.plan.wait.unwrap_or(0),
+    ) {
         Ok(opened) => opened,
         Err(fault) => {
             drop(server);

@@ -8,7 +8,7 @@ ghost use Rattle.diff_space.specs.Scopes.{Scope};
 ghost use Rattle.diff_space.specs.Spaces.{IsSpaceOf};
 
 use crate::plan_run::{PairRun, run_pair};
-use crate::splitting::{Pending, split_at};
+use crate::splitting::{PendingPlace, split_at};
 use diff_space::{Plan, PlanStatement, Space, Work};
 use std::alloc::{AllocError, Global};
 use std::marker::Model;
@@ -32,7 +32,7 @@ impl Model for PlaceClass {
 
 fn add_class(
     classes: &mut Vec<PlaceClass>,
-    pending: Pending,
+    pending: PendingPlace,
     current: u8,
     next: u8,
 ) -> Result<(), AllocError>
@@ -42,7 +42,7 @@ fn add_class(
       next = next;
     } ∷ []) }
 {
-    let Pending { partial } = pending;
+    let PendingPlace { partial } = pending;
     classes.push(PlaceClass {
         partial,
         current,
@@ -57,8 +57,8 @@ fn advance(
     alloc: Global,
     space: &Space,
     classes: &mut Vec<PlaceClass>,
-    left: &mut Vec<Pending>,
-    pending: Pending,
+    left: &mut Vec<PendingPlace>,
+    pending: PendingPlace,
     work: &mut Work,
 ) -> Result<bool, AllocError>
     ensures { IfOk result (λ done. done ≡ true → specs.LosesNoMachine space.now classes.old.items
@@ -75,11 +75,11 @@ fn advance(
 }
 
 // The partial place from which the search starts, without any segment.
-fn first_pending(alloc: Global, space: &Space) -> Result<Pending, AllocError>
+fn first_pending(alloc: Global, space: &Space) -> Result<PendingPlace, AllocError>
     ensures { (place : List ℕ) → IfOk result (λ p. Agrees place p) }
 {
     let partial = vec![in alloc; None; space.dimensions.len()]?;
-    Ok(Pending { partial })
+    Ok(PendingPlace { partial })
 }
 
 // The cost of a step in this space, in work and memory, counted in steps that look at no tuple.
@@ -116,7 +116,7 @@ fn find_all(
     alloc: Global,
     space: &Space,
     most: usize,
-    first: Pending,
+    first: PendingPlace,
     work: &mut Work,
 ) -> Result<Option<Vec<PlaceClass>>, AllocError>
     ensures { IfOk result (λ o. IfSome o (λ classes. specs.LosesNoMachine space.now [] (first ∷ [])

@@ -12,11 +12,11 @@ use std::marker::Model;
 
 /// A segment for some of the dimensions: a partial place whose classes are still to be made.
 #[derive(Drop)]
-pub(crate) struct Pending {
+pub(crate) struct PendingPlace {
     pub partial: Vec<Option<u16>>,
 }
 
-impl Model for Pending {
+impl Model for PendingPlace {
     ghost use Rattle.diff_rules.specs.Truths as specs;
 
     ghost Value = { specs.PartialPlace };
@@ -30,22 +30,22 @@ fn with_segment(
     partial: &[Option<u16>],
     dimension: usize,
     segment: u16,
-) -> Result<Pending, AllocError>
+) -> Result<PendingPlace, AllocError>
     ensures { IfOk result (λ p. p ≡ slice_set partial.now dimension (Some segment)) }
 {
     let mut more = Vec::from_slice(alloc, partial)?;
     if dimension < more.len() {
         more[dimension] = Some(segment);
-        return Ok(Pending { partial: more });
+        return Ok(PendingPlace { partial: more });
     }
-    Ok(Pending { partial: more })
+    Ok(PendingPlace { partial: more })
 }
 
 // Adds the place with one more segment, if that is possible.
 fn add_segment(
     alloc: Global,
     possible: &Option<Vec<bool>>,
-    left: &mut Vec<Pending>,
+    left: &mut Vec<PendingPlace>,
     partial: &[Option<u16>],
     dimension: usize,
     segment: u16,
@@ -72,7 +72,7 @@ const MOST_SEGMENTS: usize = 65535;
 fn split(
     alloc: Global,
     possible: &Option<Vec<bool>>,
-    left: &mut Vec<Pending>,
+    left: &mut Vec<PendingPlace>,
     partial: &[Option<u16>],
     dimension: usize,
     segments: usize,
@@ -110,7 +110,7 @@ fn split_work(space: &Space, dimension: usize, segments: usize) -> usize {
 fn split_within(
     alloc: Global,
     groups: &[Group],
-    left: &mut Vec<Pending>,
+    left: &mut Vec<PendingPlace>,
     partial: &[Option<u16>],
     dimension: usize,
     segments: usize,
@@ -131,8 +131,8 @@ fn split_within(
 pub(crate) fn split_at(
     alloc: Global,
     space: &Space,
-    left: &mut Vec<Pending>,
-    pending: &Pending,
+    left: &mut Vec<PendingPlace>,
+    pending: &PendingPlace,
     dimension: usize,
     work: &mut Work,
 ) -> Result<bool, AllocError>

@@ -16,7 +16,7 @@ mod storing;
 mod waiting;
 
 pub use counters::Counters;
-pub use opening::{Opening, open_file};
-pub use own_file::{Found, Opened, OwnFile};
+pub use opening::{OpeningCounters, open_file};
+pub use own_file::{FoundFile, OwnCounters, OwnFile};
 pub use storing::{store_of, write_last};
 pub use waiting::opened_within;

@@ -4,7 +4,7 @@ ghost use Rattle.std.specs.Prelude.{◌≡◌, IfOk, IfSome};
 ghost use Rattle.cells.specs.Events.{AreCells};
 
 use crate::counters::Counters;
-use crate::own_file::{Opened, OwnFile, no_counters, read_own};
+use crate::own_file::{OwnCounters, OwnFile, no_counters, read_own};
 use counters_file::{CountersFault, DeviceFile, read_of_another};
 use std::fs::File;
 use std::rt::Files;
@@ -12,7 +12,7 @@ use std::rt::Files;
 /// What a server opens with, and the file of its counters. The file is None if another server has
 /// it: the counters are those with which that server opened.
 #[derive(Drop)]
-pub struct Opening<'a, R> {
+pub struct OpeningCounters<'a, R> {
     pub file: Option<OwnFile<'a, R>>,
     pub counters: Counters,
 }
@@ -20,7 +20,11 @@ pub struct Opening<'a, R> {
 /// Opens the file at a path for a server's counters. If another server has the file, and this one
 /// `waits` for it, the file is only read. Returns K1 to K4 or B4.
 // open: the bytes of a device's file.
-pub fn open_file<'a, R>(rt: &'a R, path: &str, waits: bool) -> Result<Opening<'a, R>, CountersFault>
+pub fn open_file<'a, R>(
+    rt: &'a R,
+    path: &str,
+    waits: bool,
+) -> Result<OpeningCounters<'a, R>, CountersFault>
 where
     R: Files<File = File> + AllocGlobal,
     ensures cells { IfOk result (λ o. AreCells o.counters.values.items) }
@@ -28,13 +32,13 @@ where
 {
     match DeviceFile::lock(rt, path) {
         Ok(file) => {
-            let Opened { file, counters } = read_own(rt.alloc(), file)?;
-            Ok(Opening {
+            let OwnCounters { file, counters } = read_own(rt.alloc(), file)?;
+            Ok(OpeningCounters {
                 file: Some(file),
                 counters,
             })
         }
-        Err(CountersFault::InUse) if waits => Ok(Opening {
+        Err(CountersFault::InUse) if waits => Ok(OpeningCounters {
             file: None,
             counters: counters_of_another(rt, path)?,
         }),

@@ -13,7 +13,7 @@ use std::snapshot::Snapshot;
 
 /// How a file of counters was found.
 #[derive(Clone, Copy)]
-pub enum Found {
+pub enum FoundFile {
     /// It isn't there yet.
     New,
     /// Its server was stopped.
@@ -26,14 +26,14 @@ pub enum Found {
 #[derive(Drop)]
 pub struct OwnFile<'a, R> {
     pub file: DeviceFile<'a, R>,
-    pub found: Found,
+    pub found: FoundFile,
     /// The counters that were returned with it, for contracts only.
     pub said: Snapshot<Counters>,
 }
 
 /// A file of counters, and what it says.
 #[derive(Drop)]
-pub struct Opened<'a, R> {
+pub struct OwnCounters<'a, R> {
     pub file: OwnFile<'a, R>,
     pub counters: Counters,
 }
@@ -42,7 +42,7 @@ pub struct Opened<'a, R> {
 pub(crate) fn read_own<'a, R>(
     alloc: Global,
     file: DeviceFile<'a, R>,
-) -> Result<Opened<'a, R>, CountersFault>
+) -> Result<OwnCounters<'a, R>, CountersFault>
 where
     R: Files<File = File> + AllocGlobal,
     ensures cells { IfOk result (λ o. AreCells o.counters.values.items) }
@@ -51,7 +51,7 @@ where
     match counters_in(alloc, &file) {
         Ok((counters, found)) => {
             let said = Snapshot::of(&counters);
-            Ok(Opened {
+            Ok(OwnCounters {
                 file: OwnFile { file, found, said },
                 counters,
             })
@@ -61,7 +61,7 @@ where
 }
 
 // The counters of a file, and how it was found.
-fn counters_in<F: KeptFile>(alloc: Global, file: &F) -> Result<(Counters, Found), CountersFault>
+fn counters_in<F: KeptFile>(alloc: Global, file: &F) -> Result<(Counters, FoundFile), CountersFault>
     ensures found { IfOk result (λ c. IfSome (F.known file.now) (λ held. OpensFrom held c.0)) }
     ensures cells { IfOk result (λ c. AreCells c.0.values.items) }
 {
@@ -70,15 +70,15 @@ fn counters_in<F: KeptFile>(alloc: Global, file: &F) -> Result<(Counters, Found)
             let found = found_by(contents.was_stopped);
             Ok((Counters::of(contents), found))
         }
-        None => Ok((no_counters(alloc)?, Found::New)),
+        None => Ok((no_counters(alloc)?, FoundFile::New)),
     }
 }
 
-fn found_by(was_stopped: bool) -> Found {
+fn found_by(was_stopped: bool) -> FoundFile {
     if was_stopped {
-        Found::Stopped
+        FoundFile::Stopped
     } else {
-        Found::Crashed
+        FoundFile::Crashed
     }
 }
 

@@ -3,7 +3,7 @@
 ghost use Rattle.std.specs.Prelude.{◌≡◌, IfOk};
 ghost use Rattle.cells.specs.Events.{AreCells};
 
-use crate::own_file::{Opened, read_own};
+use crate::own_file::{OwnCounters, read_own};
 use counters_file::{CountersFault, DeviceFile, owner_of};
 use std::fs::File;
 use std::rt::Files;
@@ -24,7 +24,7 @@ pub fn opened_within<'a, R>(
     rt: &'a R,
     path: &str,
     seconds: u16,
-) -> Result<Opened<'a, R>, CountersFault>
+) -> Result<OwnCounters<'a, R>, CountersFault>
 where
     R: Files<File = File> + AllocGlobal + Clock + Eprint,
     ensures cells { IfOk result (λ o. AreCells o.counters.values.items) }
