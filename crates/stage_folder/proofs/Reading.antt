@@ -4,10 +4,14 @@ use Rattle.std.proofs.Common.{Bool, ap, subst, sym, refl, append_assoc, append-n
 use Rattle.std.specs.Prelude.{filter, filter_map, Some, None, IfSome, is_none, true, false}
 use Rattle.std.specs.Prelude.{Option, ◌==◌, if◌then◌else◌, option_and_then}
 use Rattle.std.specs.Prelude.{Result, Ok, Err, IfOk}
-use Rattle.std.specs.List.{cons_option}
-use Rattle.std.specs.Prelude.{IsPermutation, IsSorted}
+use Rattle.std.specs.List.{cons_option, dedup}
+use Rattle.std.specs.Prelude.{◌↔◌, Contains, IsPermutation, IsSorted}
+use Rattle.std.specs.List.Sorted.{IsStrictlyIncreasing}
 use Rattle.std.specs.Ordering.{nat_cmp}
+use Rattle.std.proofs.Common.{eqb}
+use Rattle.std.proofs.lemmas.List.Kept.{Contains-dedup_nat, Contains-from_dedup}
 use Rattle.std.proofs.lemmas.List.Sorted.{Contains-permutation, IsPermutation-sym}
+use Rattle.std.proofs.lemmas.Map.Keys.{IsStrictlyIncreasing-dedup}
 use Rattle.stage_records.specs.FileStates.{is_same_file}
 use Rattle.stage_records.specs.Steps.{StagingStep}
 use Rattle.stage_folder.specs.Folders.{GivesNumbers, GivesRecord, KnownRecords}
@@ -78,26 +82,48 @@ reads_all (Some records) numbers left read empty h =
 
 -- ---- numbers in order
 
-sorted_all : (known : KnownRecords) (numbers sorted : List ℕ) → IsPermutation numbers sorted
-    → GivesNumbers known numbers → GivesNumbers known sorted
-sorted_all None numbers sorted moved given = tt
-sorted_all (Some records) numbers sorted moved given = λ n. (
-  λ is. (given n).0 (Contains-permutation sorted numbers n
-      (IsPermutation-sym numbers sorted moved) is),
-  λ some. Contains-permutation numbers sorted n moved ((given n).1 some),
+given_too : (known : KnownRecords) (numbers others : List ℕ)
+    → ((n : ℕ) → Contains numbers n ↔ Contains others n) → GivesNumbers known numbers
+    → GivesNumbers known others
+given_too None numbers others same given = tt
+given_too (Some records) numbers others same given = λ n. (
+  λ is. (given n).0 ((same n).1 is),
+  λ some. (same n).0 ((given n).1 some),
 )
 
-pub all_recorded : (known : KnownRecords) (numbers sorted slice : List ℕ)
+-- the same numbers, in another order
+moved_all : (numbers sorted : List ℕ) → IsPermutation numbers sorted
+    → (n : ℕ) → Contains numbers n ↔ Contains sorted n
+moved_all numbers sorted moved n = (
+  Contains-permutation numbers sorted n moved,
+  Contains-permutation sorted numbers n (IsPermutation-sym numbers sorted moved),
+)
+
+pub all_recorded : (known : KnownRecords) (numbers sorted rising slice : List ℕ)
     (result : Result RecordedSteps FolderFault) → GivesNumbers known numbers
-    → IsPermutation numbers sorted → IsSorted nat_cmp sorted → slice ≡ sorted
-    → IfOk result (AreRead known slice) → IfOk result (AreRecorded known)
-all_recorded known numbers sorted slice (Err fault) given moved order same read = tt
-all_recorded known numbers sorted slice (Ok recorded) given moved order same read = record {
-  numbers = sorted;
-  all = sorted_all known numbers sorted moved given;
-  sorted = order;
-  read = subst (λ ns. AreRead known ns recorded) same read;
+    → IsPermutation numbers sorted → ((n : ℕ) → Contains sorted n ↔ Contains rising n)
+    → IsStrictlyIncreasing rising → slice ≡ rising → IfOk result (AreRead known slice)
+    → IfOk result (AreRecorded known)
+all_recorded known numbers sorted rising slice (Err fault) given moved all order same read = tt
+all_recorded known numbers sorted rising slice (Ok one) given moved all order same read = record {
+  numbers = rising;
+  all = given_too known sorted rising all
+      (given_too known numbers sorted (moved_all numbers sorted moved) given);
+  rising = order;
+  read = subst (λ ns. AreRead known ns one) same read;
 }
+
+-- each of these numbers once
+pub each_kept : (numbers kept : List ℕ) → kept ≡ dedup eqb numbers
+    → (n : ℕ) → Contains numbers n ↔ Contains kept n
+each_kept numbers kept is n = (
+  λ has. subst (λ ns. Contains ns n) (sym is) (Contains-dedup_nat numbers n has),
+  λ has. Contains-from_dedup eqb numbers n (subst (λ ns. Contains ns n) is has),
+)
+
+pub rises : (sorted kept : List ℕ) → IsSorted nat_cmp sorted → kept ≡ dedup eqb sorted
+    → IsStrictlyIncreasing kept
+rises sorted kept order is = rw is (IsStrictlyIncreasing-dedup sorted order)
 
 -- ---- one record
 

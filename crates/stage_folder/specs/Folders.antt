@@ -1,7 +1,6 @@
 -- What is known of a folder: its files by their names, and its records by their numbers.
-use Rattle.std.specs.Prelude.{◌≡◌, ◌↔◌, ℕ, ◌==◌, ◌≤◌, List, Contains, Option, Some, None}
-use Rattle.std.specs.Prelude.{option_map}
-use Rattle.std.specs.Prelude.{IfSome, IsSome, if◌then◌else◌}
+use Rattle.std.specs.Prelude.{◌≡◌, ◌⊎◌, ◌↔◌, ℕ, ◌==◌, ◌≤◌, ◌+◌, ◌-◌, ◌^◌, List, Contains}
+use Rattle.std.specs.Prelude.{Option, Some, None, option_map, IfSome, IsSome, if◌then◌else◌}
 use Rattle.std.specs.Str.{bytes_eq}
 
 -- the bytes of each file by its name; none if the file is missing
@@ -52,3 +51,12 @@ GivesNumbers known numbers =
 -- no record has this number, or a greater one
 abbrev pub IsFree : KnownRecords → (number : ℕ) → Type 0
 IsFree known number = IfSome known (λ records. (n : ℕ) → number ≤ n → records n ≡ None)
+
+-- the number 1, or the one after such a number; none, if the greatest of 32 bits is one
+abbrev pub Follows : (Is : ℕ → Type 0) → Option ℕ → Type 0
+Follows Is (Some number) = (number ≡ 1) ⊎ ((last : ℕ) × Is last × (number ≡ last + 1))
+Follows Is None = Is (2 ^ 32 - 1)
+
+-- the same of the numbers of records
+abbrev pub FollowsRecord : KnownRecords → Option ℕ → Type 0
+FollowsRecord known number = IfSome known (λ records. Follows (λ n. IsSome (records n)) number)

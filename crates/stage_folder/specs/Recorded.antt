@@ -1,8 +1,8 @@
 -- The steps that the records of a folder spell.
 use Rattle.std.specs.Prelude.{◌≡◌, ◌⊎◌, ℕ, ◌==◌, List, filter, filter_map, if◌then◌else◌}
 use Rattle.std.specs.Prelude.{Option, Some, None, IfSome, is_none, option_and_then}
-use Rattle.std.specs.Prelude.{Bool, IsSorted}
-use Rattle.std.specs.Ordering.{nat_cmp}
+use Rattle.std.specs.Prelude.{Bool}
+use Rattle.std.specs.List.Sorted.{IsStrictlyIncreasing}
 use Rattle.stage_records.specs.FileStates.{is_same_file}
 use Rattle.stage_records.specs.Records.{step_in}
 use Rattle.stage_records.specs.Steps.{StagingStep}
@@ -30,11 +30,11 @@ AreRead known numbers read = IfSome known (λ records.
     (read.steps.items ≡ filter_map (step_at records) numbers)
     × (read.unread.items ≡ filter (λ n. is_none (step_at records n)) numbers))
 
--- all records of a folder are read, in the order of their numbers
+-- each record of a folder is a step's or counts as unread, once, in the order of their numbers
 pub record AreRecorded (known : KnownRecords) (recorded : RecordedSteps) : Type 0 where
   pub numbers : List ℕ
   pub all : GivesNumbers known numbers
-  pub sorted : IsSorted nat_cmp numbers
+  pub rising : IsStrictlyIncreasing numbers
   pub read : AreRead known numbers recorded
 
 -- a step's record was made or replaced, and spells the step

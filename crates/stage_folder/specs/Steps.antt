@@ -1,6 +1,6 @@
 -- What a step makes of a folder, and what undoing it does.
 use Rattle.std.specs.Prelude.{◌≡◌, ◌≢◌, ℕ, List, [], ◌∷◌, All, take, drop, Bool, true, false}
-use Rattle.std.specs.Prelude.{find, not, ◌&&◌, Option, Some, option_map}
+use Rattle.std.specs.Prelude.{find, not, ◌&&◌, IfSome, Option, Some, option_map}
 use Rattle.std.specs.List.{list_any, position_from}
 use Rattle.std.specs.Str.{bytes_eq}
 use Rattle.stage_records.specs.FileStates.{is_same_file, state_of}
@@ -49,12 +49,18 @@ IsEdited (fault.Stopped at) = ⊥
 abbrev pub edited_place : List ReplacedFile → Folder → Option ℕ
 edited_place files folder = position_from (is_edited folder) 0 files
 
+-- a fault that says that a file was edited names the first such file
+abbrev pub NamesEdited : List ReplacedFile → KnownFolder → UndoFault → Type 0
+NamesEdited files known (fault.Edited file) =
+    IfSome known (λ folder. edited_place files folder ≡ Some file)
+NamesEdited files known (fault.Stopped at) = Unit {0}
+
 -- ---- what a step leaves
 
 abbrev pub has_name : (name : List ℕ) → ReplacedFile → Bool
 has_name name file = bytes_eq file.name name
 
--- the bytes that a step leaves a file of this name; none if it replaces none
+-- the bytes `after` of a step's first file of this name; none if it has none
 abbrev pub left_by : List ReplacedFile → (name : List ℕ) → Option (List ℕ)
 left_by files name = option_map (λ file. file.after) (find (has_name name) files)
 

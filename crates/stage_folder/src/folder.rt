@@ -23,6 +23,7 @@ pub trait StageFolder {
 
     /// Refuses the folder if another process is at work in it, and otherwise makes others refuse
     /// it until this value is dropped.
+    // open: whether it is locked: bench/staging.py.
     fn lock(&mut self) -> Result<(), FolderFault>
         ensures files { files self.new ≡ files self.old }
         ensures records { records self.new ≡ records self.old };

@@ -16,7 +16,8 @@ pub enum FolderFault {
     NoFolder,
     /// Another process is at work in it.
     Locked,
-    /// `.stage`, the folder of the records, is a link, another user's, or open to others.
+    /// `.stage`, the folder of the records, is a link or no folder, another user's, or open to
+    /// others.
     RecordsNotOwn,
     /// The record of this number doesn't spell a step of that number.
     NoRecord(u32),
@@ -49,7 +50,8 @@ pub enum UndoFault {
     /// This file, counted from 0, is neither as the step found it nor as the step left it. Nothing
     /// has changed.
     Edited { file: usize },
-    /// A file can't be read or restored. Those after it may be restored.
+    /// A file can't be read or restored. It may be restored all the same, and so may those after
+    /// it.
     Stopped(StepFault),
 }
 

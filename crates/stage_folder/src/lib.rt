@@ -30,4 +30,4 @@ pub use note::{FolderNote, process_number};
 pub use numbering::next_number;
 pub use performing::perform;
 pub use records::{RecordedSteps, recorded_steps, write_record};
-pub use undoing::{edited_file, undo};
+pub use undoing::{edited_file, state_in, undo};

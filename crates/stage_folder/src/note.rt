@@ -5,7 +5,8 @@
 pub enum FolderNote {
     /// The last load of each server by `stage`.
     Loads,
-    /// Which call is at work in the folder. It isn't made before the folder of the records.
+    /// Which call is at work in the folder, or was when it crashed. It isn't made before the
+    /// folder of the records.
     AtWork,
 }
 

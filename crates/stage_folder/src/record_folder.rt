@@ -11,7 +11,7 @@ use std::rt::Files;
 /// Its name in the folder of the files.
 pub(crate) const RECORDS: &str = ".stage";
 
-/// Its path, and whether it is there. Returns `RecordsNotOwn` if it is a link, another user's, or
+/// Whether it is there. Returns `RecordsNotOwn` if it is a link or no folder, another user's, or
 /// open to others.
 pub(crate) fn has_records<R: Files>(rt: &R, path: &str) -> Result<bool, FolderFault> {
     match fs::symlink_metadata(rt, path) {

@@ -1,7 +1,8 @@
 //! The records of the steps in a folder.
 
-ghost use Rattle.std.specs.Prelude.{◌≡◌, ◌==◌, IfErr, IfOk, IsPermutation, IsSorted, OnOk, Some};
-ghost use Rattle.std.specs.Prelude.{true};
+ghost use Rattle.std.specs.Prelude.{◌≡◌, ◌↔◌, ◌==◌, ℕ, Contains, IfErr, IfOk, IsPermutation};
+ghost use Rattle.std.specs.Prelude.{IsSorted, OnOk, Some, true};
+ghost use Rattle.std.specs.List.Sorted.{IsStrictlyIncreasing};
 ghost use Rattle.std.specs.Ordering.{nat_cmp};
 ghost use Rattle.stage_folder.specs.Steps.{has_distinct_names};
 ghost use Rattle.stage_folder.specs.Recorded.{AreRead, AreRecorded, HasRecord, AreRecordsAfter};
@@ -22,8 +23,8 @@ pub struct RecordedSteps {
     pub unread: Vec<u32>,
 }
 
-/// Reads all records of a folder. A fault is about the folder of the records, or about a record
-/// that can't be opened.
+/// Reads all records of a folder. A fault is about the folder of the records, a record whose bytes
+/// can't be read, or memory.
 // open: which fault is returned.
 pub fn recorded_steps<F: StageFolder>(
     alloc: Global,
@@ -31,7 +32,8 @@ pub fn recorded_steps<F: StageFolder>(
 ) -> Result<RecordedSteps, FolderFault>
     ensures { IfOk result (AreRecorded (F.records folder.now)) }
 {
-    let numbers = in_order(folder.record_numbers()?);
+    let sorted = in_order(folder.record_numbers()?);
+    let numbers = each_once(sorted);
     read_records(alloc, folder, numbers.as_slice())
 }
 
@@ -40,6 +42,15 @@ fn in_order(mut numbers: Vec<u32>) -> Vec<u32>
     ensures sorted { IsSorted nat_cmp result.items }
 {
     numbers.as_mut_slice().sort_unstable();
+    numbers
+}
+
+fn each_once(mut numbers: Vec<u32>) -> Vec<u32>
+    requires { IsSorted nat_cmp numbers.items }
+    ensures all { (n : ℕ) → Contains numbers.items n ↔ Contains result.items n }
+    ensures rising { IsStrictlyIncreasing result.items }
+{
+    numbers.dedup();
     numbers
 }
 

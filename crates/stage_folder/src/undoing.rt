@@ -4,14 +4,16 @@ ghost use Rattle.std.specs.Prelude.{◌≡◌, ◌⊎◌, ◌+◌, ◌<◌, ◌^
 ghost use Rattle.std.specs.Prelude.{length, option_map, None};
 ghost use Rattle.stage_folder.specs.Folders.{put_known};
 ghost use Rattle.stage_records.specs.FileStates.{state_of};
-ghost use Rattle.stage_folder.specs.Steps.{IsEdited, IsPartlyUndone, edited_place, undone};
+ghost use Rattle.stage_folder.specs.Steps.{IsEdited, IsPartlyUndone, NamesEdited, edited_place};
+ghost use Rattle.stage_folder.specs.Steps.{undone};
 
 use crate::folder::StageFolder;
 use crate::folder_fault::{FolderFault, StepFault, UndoFault};
 use stage_records::{FileState, ReplacedFile};
 
-// How a file that a step replaced is now.
-fn state_in<F: StageFolder>(folder: &F, file: &ReplacedFile) -> Result<FileState, FolderFault>
+/// How a file that a step replaced is now.
+// open: which fault is returned.
+pub fn state_in<F: StageFolder>(folder: &F, file: &ReplacedFile) -> Result<FileState, FolderFault>
     ensures { IfOk result (λ state. IfSome (F.files folder.now)
         (λ known. state ≡ state_of file.now (known file.now.name))) }
 {
@@ -20,7 +22,7 @@ fn state_in<F: StageFolder>(folder: &F, file: &ReplacedFile) -> Result<FileState
 }
 
 /// The place of the first file, counted from 0, that is neither as the step left it nor as the step
-/// found it. If there is none, `undo` changes the files.
+/// found it. If there is one, `undo` changes none.
 // open: which fault is returned.
 pub fn edited_file<F: StageFolder>(
     folder: &F,
@@ -57,6 +59,7 @@ pub fn undo<F: StageFolder>(folder: &mut F, files: &[ReplacedFile]) -> Result<()
         (λ _. F.files folder.new ≡ F.files folder.old)) }
     ensures refused { IfErr result (λ fault. IsEdited fault
         → F.files folder.new ≡ F.files folder.old) }
+    ensures named { IfErr result (NamesEdited files.now (F.files folder.old)) }
     ensures failed { OnErr result
         (IsPartlyUndone files.now (F.files folder.old) (F.files folder.new)) }
     ensures records { F.records folder.new ≡ F.records folder.old }
