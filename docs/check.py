@@ -11,7 +11,8 @@ few long sentences. Each wrong body can be put in place: what it replaces is in 
 `plain.txt` and `weight.txt` bound the words of this house in comments, and the words of each page.
 The lines of sources have at most 100 columns.
 Each crate of a line of crates.txt is named there, and `edges.txt` has a reason for each that is
-named for little and drags much.
+named for little and drags much. No two crates declare a public type of one name, but for those of
+`meanings.txt`.
 Each file of rows is run, its rows are counted anew, and its folders are its own; the examples that
 rows read are those of `examples`, and the transcripts of pages are rows. The page of help that the
 launcher prints is that of the programs, and has each of their commands, as has each list of the
@@ -33,8 +34,8 @@ import sys
 from pathlib import Path
 
 from checking import (
-    codes, columns, commands, crates_page, edges, examples, left_open, members, plain, quotes, recipes,
-    reference, rows, transcripts, weight
+    codes, columns, commands, crates_page, edges, examples, left_open, meanings, members, plain, quotes,
+    recipes, reference, rows, transcripts, weight
 )
 from checking.edits import lost_edits
 from checking.exports import lost_comments
@@ -85,6 +86,7 @@ def faults():
     yield from plain.too_many()
     yield from weight.too_heavy()
     yield from edges.faults()
+    yield from meanings.faults()
     yield from examples.other_copies()
     yield from transcripts.other_rows()
     yield from rows.left_out()
