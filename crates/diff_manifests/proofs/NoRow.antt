@@ -13,7 +13,7 @@ use Rattle.diff_space.specs.Scopes.{IsWithin, Scope}
 use Rattle.diff_space.specs.Spaces.{Space}
 use Rattle.load.specs.declared.judged.JudgedApp.{JudgedApp}
 use Rattle.diff_manifests.specs.Apps.IsSameApp.{same_rule, same_program}
-use Rattle.diff_manifests.specs.NoRow.{DiffIsSo, GivesAlike, HasMachine, IsAlike, IsRowValue}
+use Rattle.diff_manifests.specs.NoRow.{DiffSound, GivesAlike, HasMachine, IsAlike, IsRowValue}
 use Rattle.diff_manifests.specs.NoRow.{RowsMatchRuns, Serves}
 use Rattle.diff_manifests.specs.NoRow.{served_side}
 use Rattle.diff_manifests.specs.NoRow.IsAlike.{same_content, same_program as alike_program}
@@ -95,8 +95,8 @@ is_alike (Some old) (Some new) (same_program is) a g =
 is_alike (Some old) None is a g = absurd is
 is_alike None new is a g = absurd is
 
-pub diff_is_so : RunsAreInStates → DiffIsSo
-diff_is_so law = record {
+pub diff_sound : RunsAreInStates → DiffSound
+diff_sound law = record {
   report = reported;
   rows = λ x old new space rows has. record {
     no_row = has.is_diff.complete;

@@ -114,7 +114,7 @@ pub record IsReported (both : OpenedBoth) (from_day : ℕ) (used : List CellBoun
   pub appid_is : string_bytes diff.appid ≡ appid
   pub is_diff : IsAppDiff both from_day used diff
 
-pub record DiffIsSo : Type 0 where
+pub record DiffSound : Type 0 where
   -- each app of either manifest is reported: by rows, as the same, or as not compared
   pub report : (both : OpenedBoth) (from_day : ℕ) (used : List CellBound) (diffs : List AppDiff)
       → AreAppDiffs both from_day used None diffs → (appid : List ℕ) → have_app both appid ≡ true

@@ -10,7 +10,7 @@
 // offers nothing. An app with two equal sides, or two equal programs, is the same without a search
 // (`same.rt`). Everything else with a program isn't compared.
 //
-// What is promised of rows is proved in `diff_rules`. Here the law `diff_is_so` says it of apps: a
+// What is promised of rows is proved in `diff_rules`. Here the law `diff_sound` says it of apps: a
 // machine that is in no row of an app compared by rows gets the same from both manifests.
 
 mod app_diff;
@@ -30,7 +30,7 @@ mod sides;
 
 pub use app_diff::AppDiff;
 pub use diff_fault::DiffFault;
-pub use laws::diff_is_so;
+pub use laws::diff_sound;
 pub use opened::{OpenedBoth, open_both};
 pub use outcome::{AppChange, AppOutcome, WhyNot};
 pub use output::{DiffOptions, DiffOutput, diff_manifests};

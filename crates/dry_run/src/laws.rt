@@ -50,7 +50,7 @@ pub fn opens_the_same()
 
 /// Law: a member of a request or of an app that is present without a line counts, and a member with
 /// a line counts as absent.
-pub fn notes_are_so()
+pub fn notes_sound()
     ensures members { MembersAreNoted }
     // The lines are those of the members from which the request is read.
     ensures read { ReadMembersAreExplained }

@@ -98,15 +98,15 @@ pub record ExplainsRule (a : Attributes) (s : AppShape) (rule : List Statement) 
 
 -- each reported truth is that of its test: for any continuations, on counters with these values the
 -- test continues by the reported truth
-abbrev pub TruthsAreSo : Type 0
-TruthsAreSo = (a : Attributes) (s : AppShape) (counters : List ℕ) (t : Test)
+abbrev pub TruthsSound : Type 0
+TruthsSound = (a : Attributes) (s : AppShape) (counters : List ℕ) (t : Test)
     (met unmet : Behaviour) → ending_on counters (test_then a s t met unmet)
     ≡ ending_on (left_at counters (cell_used s t))
     (if holds_on a s counters t then met else unmet)
 
 -- so a condition continues by its reported truth
-abbrev pub ConditionsAreSo : Type 0
-ConditionsAreSo = (a : Attributes) (s : AppShape) (counters : List ℕ) (c : Tree)
+abbrev pub ConditionsSound : Type 0
+ConditionsSound = (a : Attributes) (s : AppShape) (counters : List ℕ) (c : Tree)
     (met unmet : Behaviour) → (let r = read_tree a s counters c in
     ending_on counters (decide a s c met unmet)
     ≡ ending_on r.counters (if r.holds then met else unmet))

@@ -4,14 +4,14 @@ ghost use Rattle.why_choice.specs.Quoted as quoted;
 ghost use Rattle.why_choice.specs.RuleLines as specs;
 
 /// Law: each reported truth of a test is what the test means.
-pub fn truths_are_so()
-    ensures { specs.TruthsAreSo }
+pub fn truths_sound()
+    ensures { specs.TruthsSound }
 {}
 
 /// Law: a condition's meaning takes the reported branch: the first if it is reported to hold,
 /// otherwise the second.
-pub fn conditions_are_so()
-    ensures { specs.ConditionsAreSo }
+pub fn conditions_sound()
+    ensures { specs.ConditionsSound }
 {}
 
 /// Law: a `when` that is reported to hold ends the rule with its release, and after any other the

@@ -23,7 +23,7 @@ mod rule_lines;
 mod rule_report;
 
 pub use laws::{
-    conditions_are_so, endings_are_meant, last_line_chooses, quotes_end_texts, truths_are_so,
+    conditions_sound, endings_are_meant, last_line_chooses, quotes_end_texts, truths_sound,
     whens_decide,
 };
 pub use quoted::push_quoted;

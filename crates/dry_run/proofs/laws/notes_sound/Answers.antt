@@ -1,6 +1,6 @@
 use Rattle.dry_run.proofs.MembersNoted.{members_are_noted}
 use Rattle.dry_run.proofs.Written.{read_members_are_explained}
-use Rattle.dry_run.proofs.laws.notes_are_so.Goals as goal
+use Rattle.dry_run.proofs.laws.notes_sound.Goals as goal
 
 pub returns-clause-members : goal.returns-clause-members
 returns-clause-members c = members_are_noted
