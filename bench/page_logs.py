@@ -1,24 +1,26 @@
-"""Logs for `bench/page`: an empty one, a quiet day, a good day, a bad night, hostile names and 256
-apps. And what a page of a log has to say, counted by itself.
+"""Logs for `bench/page`: an empty one, a quiet day, a good day, a bad night, hostile names, 256
+apps, and more names than a report has rows. Each ends now. And what a page of a log has to say,
+counted by itself.
 """
 import json
 import random
 from collections import Counter
 from datetime import datetime, timedelta, timezone
 
-START = datetime(2026, 11, 29, 16, 30, tzinfo=timezone.utc)
-NAMES = ["<script>alert(1)</script>", '" onload="alert(1)', "' onmouseover='x'", "]]><!--", "&lt;b&gt;",
-         "</style></title></textarea><img src=x onerror=alert(1)>", "\u202egnp.exe\u2066", "a\0b\x1b[31m",
-         "javascript:alert(1)", "\ufffe\uffff\u0085", "$(rm -rf /)", "--help", "a b", "x" * 1024]
-NO_UTF8 = b'{"time":"2026-11-29T16:30:00.000Z","kind":"connection","apps":[{"appid":"\xff\xfe"}]}\n'
-
-
-def at(minute):
-    return (START + timedelta(minutes=minute)).strftime("%Y-%m-%dT%H:%M:%S.000Z")
+NAMES = [
+    "<script>alert(1)</script>", '" onload="alert(1)', "' onmouseover='x'", "]]><!--",
+    "&lt;b&gt;", "</style></title></textarea><img src=x onerror=alert(1)>",
+    "\u202egnp.exe\u2066", "a\0b\x1b[31m", "javascript:alert(1)", "\ufffe\uffff\u0085",
+    "$(rm -rf /)", "--help", "a b", "x" * 1024,
+]
+# The minute of the bad night's last line.
+BAD_NIGHT_ENDS = 605
+NO_UTF8 = b'{"kind":"connection","apps":[{"appid":"\xff\xfe"}]}\n'
 
 
 def connection(minute, apps, status=200, **more):
-    return {"time": at(minute), "kind": "connection", "status": status, "apps": apps, **more}
+    """A line, as all others here with its minute for its time."""
+    return {"time": minute, "kind": "connection", "status": status, "apps": apps, **more}
 
 
 def asks(app, version, release=None):
@@ -32,20 +34,22 @@ def installed(app, old, new, result):
     return {"appid": app, "version": version, "choice": 0, "event": json.dumps([event])}
 
 
-def course(app, versions, minutes, offered_from, failing):
-    """One app's lines: in each minute two machines ask, and one in four installs what it is offered."""
+def course(app, versions, minutes, offered_from, failing, machines=2, share=0.25):
+    """One app's lines: how many machines ask in each minute, and which share of them is offered the
+    new version and installs it."""
     older, old, new = versions
     for minute in minutes:
-        for _ in range(2):
-            if minute >= offered_from and random.random() < 0.25:
+        for _ in range(machines):
+            if minute >= offered_from and random.random() < share:
+                result = int(random.random() >= failing)
                 yield connection(minute, [asks(app, old, new)])
-                yield connection(minute, [installed(app, old, new, int(random.random() >= failing))])
+                yield connection(minute, [installed(app, old, new, result)])
             else:
                 yield connection(minute, [asks(app, random.choice([old, old, old, older]))])
 
 
 def load(minute, path, generation):
-    return {"time": at(minute), "kind": "load", "path": path, "generation": generation}
+    return {"time": minute, "kind": "load", "path": path, "generation": generation}
 
 
 def quiet_day():
@@ -61,11 +65,12 @@ def good_day():
 
 
 def bad_night():
-    yield from course("editor", ("1.9", "2.0", "2.1"), range(510, 606), 560, 0.6)
-    yield from course("viewer", ("4.9", "5.0", "5.1"), range(510, 606), 510, 0.01)
+    minutes = range(510, BAD_NIGHT_ENDS + 1)
+    yield from course("editor", ("1.9", "2.0", "2.1"), minutes, 560, 0.6, 8, 0.12)
+    yield from course("viewer", ("4.9", "5.0", "5.1"), minutes, 510, 0.01)
     yield load(560, "/etc/rollout/manifest.toml", 5)
     yield load(591, "/tmp/m.toml", 6)
-    yield {"time": at(588), "kind": "lost", "lines": 12}
+    yield {"time": 588, "kind": "lost", "lines": 12}
     yield from [connection(600, [], 500, refusal="O9 Answer")] * 3
     yield from [connection(601, [], 400, refusal="O3 Protocol")] * 4
 
@@ -77,7 +82,7 @@ def hostile():
             yield connection(minute, [installed(name, name[:40], name[:50], int(minute % 3 > 0))])
         yield load(3, name, 2)
         yield connection(5, [{"appid": name, "unknown": True}], 400, refusal=name)
-        yield {"time": at(6), "kind": name}
+        yield {"time": 6, "kind": name}
 
 
 def many_apps():
@@ -87,15 +92,49 @@ def many_apps():
         yield connection(40, [installed(f"app{app:03}", "1.0", "1.1", int(app % 50 > 0))])
 
 
+def limits():
+    """Each list of a report has more names than rows, as long as those of many programs."""
+    for n in range(300):
+        app = f"{{{n:08X}-1B2C-4D3E-8F90-A1B2C3D4E5F6}}"
+        for minute in range(0, 1440, 60):
+            yield connection(minute, [asks(app, "131.0.6778.204", "131.0.6778.265")])
+        yield connection(n, [installed(app, "131.0.6778.204", "131.0.6778.265", n % 3)])
+        yield load(n, f"/etc/rollout/releases/{n:04}/manifest.toml", n + 2)
+        yield connection(n, [], 400, refusal=f"O{n} of a later version")
+        yield {"time": n, "kind": f"kind {n}"}
+
+
+def stamped(lines):
+    """The lines in their order, with times of which the last one is now."""
+    now = datetime.now(timezone.utc)
+    last = max((line["time"] for line in lines), default=0)
+    for line in sorted(lines, key=lambda line: line["time"]):
+        moment = now - timedelta(minutes=last - line["time"])
+        yield {**line, "time": moment.strftime("%Y-%m-%dT%H:%M:%S.000Z")}
+
+
 def all_logs():
     """The bytes of each log, and its lines."""
     random.seed(5)
     makers = {"empty": list, "quiet-day": quiet_day, "good-day": good_day, "bad-night": bad_night,
-              "hostile": hostile, "many-apps": many_apps}
+              "hostile": hostile, "many-apps": many_apps, "limits": limits}
     for name, maker in makers.items():
-        lines = sorted(maker(), key=lambda line: line["time"])
+        lines = [*stamped([*maker()])]
         text = b"".join(json.dumps(line).encode() + b"\n" for line in lines)
-        yield name, text + (NO_UTF8 if name == "hostile" else b""), lines
+        yield name, (NO_UTF8 if name == "hostile" else b"") + text, lines
+
+
+def shown_name(name):
+    """A name as a page shows it: control characters are escaped, and what XML forbids is a question
+    mark."""
+    def shown(c):
+        n = ord(c)
+        turns = n in (0x61C, 0x200E, 0x200F) or 0x2028 <= n <= 0x202E or 0x2066 <= n <= 0x2069
+        if n < 32 or 127 <= n <= 159 or turns:
+            return f"\\u{{{n:x}}}"
+        return "?" if n in (0xFFFE, 0xFFFF) else c
+
+    return "".join(map(shown, name))
 
 
 def share(n, whole):
