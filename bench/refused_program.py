@@ -21,8 +21,11 @@ FAULT = re.compile(
 WARNINGS = re.compile(r"((warning [a-z-]+: |manifest ).*\n)*")
 # The progress of `simulate`.
 PROGRESS = re.compile(r"^simulated .*\n", re.M)
-# The bytes of OUT before a command; a picture may only replace a picture.
+# The bytes of OUT and PAGE before a command; a picture may only replace a picture, a page a page.
 BEFORE = b"<svg> as it was"
+PAGE_BEFORE = b"<!DOCTYPE html>\n<!-- A page of rollout report -->\nas it was"
+# The time of a page.
+WRITTEN_AT = re.compile(rb"Page written at [^ ]+ ")
 
 RULES = {
     "none.rule": "otherwise none;\n",
@@ -71,6 +74,8 @@ COMMANDS = {
     "diff": ["diff", "first.toml", "next.toml", "--cells", "q[0]=3"],
     "diff, json": ["diff", "first.toml", "next.toml", "--operator", "PORT", "--json"],
     "report, a page": ["report", "a.log", "--html", "PAGE"],
+    "report, a page of all": ["report", "a.log", "--html", "PAGE", "--folder", ".", "--operator",
+                              "PORT"],
     "report, continued": ["report", "a.log", "--state", "STATE", "--prometheus"],
     "report, of a server": ["report", "a.log", "--operator", "PORT"],
     "stage, history": ["stage", "history", "--folder", "."],
@@ -79,7 +84,7 @@ COMMANDS = {
     "why": ["why", "first.toml", "a.log", "--bucket", "7"],
 }
 # The files that a call may write, with their bytes before it; without bytes it isn't there.
-WRITTEN = {"OUT": BEFORE, "PAGE": b"", "STATE": None}
+WRITTEN = {"OUT": BEFORE, "PAGE": PAGE_BEFORE, "STATE": None}
 
 
 # A simulation allocates for each client, a comparison for each case: after the first 600, every
@@ -134,8 +139,14 @@ def is_partial_status(found, untroubled):
     return found[0] == 1 and found[2].endswith(UNREAD) and all(it in lines for it in shown)
 
 
+def is_partial_page(found, untroubled):
+    """Whether a page was written that names what of the folder isn't on it, for want of memory."""
+    return found[:3] == untroubled[:3] and b"out of memory" in found[3]["PAGE"]
+
+
 def bytes_of(path):
-    return path.read_bytes() if path.exists() else None
+    """A file's bytes, but for the time of a page."""
+    return WRITTEN_AT.sub(b"", path.read_bytes()) if path.exists() else None
 
 
 class Commands:
@@ -203,6 +214,8 @@ def kind(found, untroubled):
         return "out of memory, of the steps"
     if found == untroubled:
         return "done all the same"
+    if is_partial_page(found, untroubled):
+        return "a page that says so"
     raise Wrong(f"{found}")
 
 
