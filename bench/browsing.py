@@ -81,12 +81,12 @@ def fetched(password, method="GET"):
 
 class Dom(html.parser.HTMLParser):
     """What a document has: its start tags and texts in their order, the names (class `name`), the
-    items of lists, the cells of tables, the facts, and the whole report."""
+    items of lists, the commands, the cells of tables, the facts, and the whole report."""
 
     def __init__(self, text):
         super().__init__()
         self.parts, self.names, self.items, self.rows, self.open = [], [], [], [], []
-        self.facts, self.whole = "", ""
+        self.commands, self.facts, self.whole = [], "", ""
         self.feed(text)
 
     def handle_starttag(self, tag, attrs):
@@ -97,6 +97,8 @@ class Dom(html.parser.HTMLParser):
             self.rows[-1].append("")
         if tag == "li":
             self.items.append("")
+        if tag == "code":
+            self.commands.append("")
         if ("class", "name") in attrs:
             self.names.append("")
         if tag not in VOID:
@@ -118,6 +120,8 @@ class Dom(html.parser.HTMLParser):
             self.items[-1] += data
         elif ("p", "facts") in self.open:
             self.facts += data
+        if tags[-1:] == ["code"]:
+            self.commands[-1] += data
         if self.open and self.open[-1][1] == "name":
             self.names[-1] += data
 

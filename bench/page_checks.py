@@ -121,7 +121,8 @@ def misbrowsed(browser, page, lines, report):
 
 
 def too_wide(browser):
-    """At which widths of the window, or on paper, one has to scroll sideways."""
+    """At which width of the window or of paper one has to scroll sideways, with all unfolded."""
+    browser.value("document.querySelectorAll('details').forEach(it => it.open = true)")
     for medium in ("screen", "print"):
         for width in WIDTHS:
             browser.look(width, medium=medium)

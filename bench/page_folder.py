@@ -76,5 +76,7 @@ def misshown(dom, port):
                           (TAKEN, steps)):
         if missing := [it for it in wanted if it not in found]:
             return f"{missing} isn't in {found}"
+    if f"rollout stage halt editor --operator {port}" not in dom.commands[:1]:
+        return f"its commands are {dom.commands}"
     if f"The server at {port} serves generation 1" not in dom.facts:
         return f"its facts are {dom.facts}"

@@ -24,8 +24,8 @@ PROGRESS = re.compile(r"^simulated .*\n", re.M)
 # The bytes of OUT and PAGE before a command; a picture may only replace a picture, a page a page.
 BEFORE = b"<svg> as it was"
 PAGE_BEFORE = b"<!DOCTYPE html>\n<!-- A page of rollout report -->\nas it was"
-# The time of a page.
-WRITTEN_AT = re.compile(rb"Page written at [^ ]+ ")
+# The time of a page, and how long before it the log ends.
+WRITTEN_AT = re.compile(rb"Page written at [^ ]+ |, \d+ \w+ before th(e|is) page")
 
 RULES = {
     "none.rule": "otherwise none;\n",
