@@ -54,7 +54,7 @@ is_in_force steps apps appid =
     list_any (λ halted. bytes_eq halted appid) (halted_apps steps)
     && not (surely_offers apps appid)
 
--- the next manifest may offer an app that the current one may not offer
+-- the next manifest may offer an app that the current one doesn't surely offer
 abbrev pub lifts : (current next : List AppSources) → (appid : List ℕ) → Bool
 lifts current next appid = not (surely_offers current appid) && may_offer next appid
 

@@ -6,10 +6,9 @@
 // A step replaces an app's file whole, and no manifest is edited. A halt is one of two files, a
 // rule or a program. It is proved that no load refuses them, and that nobody is offered a release.
 //
-// The text of a raised rule is made without a contract and then read back by the parser of rules.
-// What is read is compared with what is wanted, and a text that doesn't read back isn't returned.
-// So no lemma is about texts. The text of a rule without the statements that offer a version is
-// made and read back in the same way.
+// The text of a raised rule, and of one without some statements, is made and then read back by the
+// parser of rules. What is read is compared with what is wanted, and a text that reads otherwise
+// isn't returned.
 
 mod cut;
 mod halt;
