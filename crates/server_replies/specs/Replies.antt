@@ -24,6 +24,13 @@ abbrev pub first_after : (word : List ℕ) → (lines : List (List ℕ)) → Opt
 first_after word [] = None
 first_after word (line ∷ lines) = option_or (text_after word line) (first_after word lines)
 
+-- the time in TIME PATH, and the path
+abbrev pub time_of_load : List ℕ → List ℕ
+time_of_load loaded = before_first is_blank loaded
+
+abbrev pub path_of_load : List ℕ → List ℕ
+path_of_load loaded = after_first is_blank loaded
+
 -- in each such line
 abbrev pub each_after : (word : List ℕ) → (lines : List (List ℕ)) → List (List ℕ)
 each_after word lines = filter_map (text_after word) lines

@@ -1,4 +1,4 @@
-//! What a server says of itself.
+//! A server with its replies.
 
 /// What a server says of itself.
 #[derive(Clone, Copy)]

@@ -6,4 +6,4 @@ mod facts;
 mod reply_lines;
 
 pub use facts::{ServerFacts, ServerReplies};
-pub use reply_lines::{first_after, lines_of, text_after};
+pub use reply_lines::{first_after, lines_of, path_of_load, text_after, time_of_load};

@@ -39,3 +39,23 @@ pub fn first_after<'a>(word: &str, lines: &[&'a str]) -> Option<&'a str>
     }
     None
 }
+
+/// The time in `TIME PATH`, what follows `loaded`.
+pub fn time_of_load<'a>(loaded: &'a str) -> &'a str
+    ensures { result.now ≡ specs.time_of_load loaded.now }
+{
+    match loaded.split_once(' ') {
+        Some((time, _path)) => time,
+        None => loaded,
+    }
+}
+
+/// The path in it; empty without a blank.
+pub fn path_of_load<'a>(loaded: &'a str) -> &'a str
+    ensures { result.now ≡ specs.path_of_load loaded.now }
+{
+    match loaded.split_once(' ') {
+        Some((_time, path)) => path,
+        None => "",
+    }
+}
