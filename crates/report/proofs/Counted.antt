@@ -2,8 +2,9 @@
 use Rattle.std.proofs.Common.{◌≡◌, ℕ, ◌+◌, ◌^◌, ◌-◌, List, [], ◌∷◌, ◌++◌, refl, sym, ap, ◌∙◌, arith}
 use Rattle.std.proofs.Common.{Bool, Some, None, min, append-nil, subst}
 use Rattle.std.proofs.Common.{◌<◌, length}
-use Rattle.std.proofs.Common.{sum_by, is_some, is_none}
-use Rattle.std.proofs.lemmas.List.Sums.{sum_by_push}
+use Rattle.std.proofs.Common.{sum_by, is_some, is_none, max}
+use Rattle.std.specs.Prelude.{fold}
+use Rattle.std.proofs.lemmas.List.Sums.{fold-append, sum_by_push}
 use Rattle.std.proofs.lemmas.List.Concat.{flat_map-cons}
 use Rattle.std.proofs.lemmas.Grind.{flat_map-append}
 use Rattle.report.specs.Members.{LineMembers}
@@ -36,6 +37,14 @@ more_sum : (f : List ℕ → ℕ) (before : List (List ℕ)) (line : List ℕ) (
 more_sum f before line old new by up by_is old_is =
     up (sum_by f before) old_is
     ∙ ap capped (ap (λ (k : ℕ). sum_by f before + k) by_is ∙ sym (sum_by_push f before line))
+
+-- the greatest with one more line
+more_greatest : (f : List ℕ → ℕ) (before : List (List ℕ)) (line : List ℕ) (old new : ℕ)
+    → new ≡ max old (f line) → old ≡ fold (λ n l. max n (f l)) 0 before
+    → new ≡ fold (λ n l. max n (f l)) 0 (before ++ line ∷ [])
+more_greatest f before line old new up old_is =
+    up ∙ ap (λ (n : ℕ). max n (f line)) old_is
+    ∙ sym (fold-append (λ n l. max n (f l)) 0 before (line ∷ []))
 
 module _ (window : Window) (before : List (List ℕ)) (line : List ℕ) where
   more_names : (names : LineMembers → List RowName)
@@ -71,6 +80,10 @@ tables_made [] questions made none so_far =
     subst (AreTallies (λ q. []) questions) (append-nil made) (so_far [] tt)
 tables_made (q ∷ left) questions made none so_far = absurd (omega (arith, none))
 
+-- the greatest of a number and 0
+pub max_zero : (n : ℕ) → n ≡ max n 0
+max_zero n = omega arith
+
 -- no name is counted
 pub each_stays : (questions : List Question) (tallies : List Tally)
     → NotesEach (λ q. []) questions tallies tallies
@@ -85,6 +98,7 @@ adds_nothing event r = record {
   lost = stays r.lost;
   left_out = stays r.left_out;
   offers_left_out = stays r.offers_left_out;
+  longest_wait = max_zero r.longest_wait;
   drawn = refl;
   tallies = each_stays QUESTIONS r.tallies.items;
 }
@@ -110,6 +124,7 @@ counts_one window line old new adds = record {
     left_out = more_sum _ before line _ _ _ adds.left_out refl counted.left_out;
     offers_left_out =
         more_sum _ before line _ _ _ adds.offers_left_out refl counted.offers_left_out;
+    longest_wait = more_greatest _ before line _ _ adds.longest_wait counted.longest_wait;
     tallies = more_tallies window before line drawn QUESTIONS old.tallies.items new.tallies.items
         (subst (λ (b : Bool). NotesEach
         (λ q. names_if (names_of b q) (event_in_window window line)) QUESTIONS old.tallies.items

@@ -24,11 +24,16 @@ first_rest (y ∷ ys) x some is =
     let n : length (y ∷ ys) - 1 ≡ length ys = omega arith in
     ap (λ z. z ∷ ys) (sym is) ∙ ap (λ t. x ∷ t) (sym (ap (λ m. take m ys) n ∙ take-length ys))
 
--- the same of a list of bytes
+-- the same of a list whose first element is read with this default
+pub first_or : {X : Type 0} (d : X) (xs : List X) → 0 < length xs
+    → xs ≡ get_or xs 0 d ∷ take (length xs - 1) (drop 1 xs)
+first_or d [] some = absurd (omega (arith, some))
+first_or d (y ∷ ys) some = first_rest (y ∷ ys) y some refl
+
+-- of a list of bytes
 pub first_byte : (xs : List ℕ) → 0 < length xs
     → xs ≡ get_or xs 0 0 ∷ take (length xs - 1) (drop 1 xs)
-first_byte [] some = absurd (omega (arith, some))
-first_byte (y ∷ ys) some = first_rest (y ∷ ys) y some refl
+first_byte xs some = first_or 0 xs some
 
 pub none_left : {X : Type 0} (xs : List X) → length xs < 1 → xs ≡ []
 none_left [] few = refl

@@ -1,9 +1,11 @@
 -- What a report counts in the lines of a log.
 use Rattle.std.specs.Prelude.{◌≡◌, ℕ, ◌+◌, List, [], ◌∷◌, codes, count_by, flat_map, sum_by}
+use Rattle.std.specs.Prelude.{fold, max}
 use Rattle.std.specs.Prelude.{Bool, Option, Some, None, is_some, is_none, unwrap_or}
 use Rattle.std.specs.Prelude.{if◌then◌else◌}
 use Rattle.report.specs.Names.{names_if}
 use Rattle.report.specs.Questions.{AreTallies, member_of, names_of, tally_named}
+use Rattle.report.specs.Responses.{longest_wait_in}
 use Rattle.report.specs.Tallies.{RowName, capped, Notes}
 use Rattle.report.specs.Members.{LineMembers}
 use Rattle.report.specs.Windows.{event_in, event_in_window, is_kind}
@@ -43,6 +45,10 @@ module _ (window : Window) (lines : List (List ℕ)) where
   abbrev pub total : (LineMembers → ℕ) → ℕ
   total number = capped (sum_by (λ line. number_if number (event_in_window window line)) lines)
 
+  -- the greatest, or 0
+  abbrev pub greatest : (LineMembers → ℕ) → ℕ
+  greatest number = fold (λ n line. max n (number_if number (event_in_window window line))) 0 lines
+
   -- The table of each question counts the names in the lines that count: the server's, in the
   -- window. In other lines nothing is counted, but lines that aren't the server's are counted as
   -- `foreign`. The counts for a chart are made only if one is drawn.
@@ -54,6 +60,7 @@ module _ (window : Window) (lines : List (List ℕ)) where
     pub lost : r.lost ≡ total lost_in
     pub left_out : r.left_out ≡ total left_out_in
     pub offers_left_out : r.offers_left_out ≡ total offers_left_out_in
+    pub longest_wait : r.longest_wait ≡ greatest longest_wait_in
     pub tallies :
         AreTallies (λ question. all_names (names_of drawn question)) QUESTIONS r.tallies.items
 
@@ -87,6 +94,8 @@ pub record AddsLine (event line : Option LineMembers) (old new : Report) : Type 
   pub left_out : GoesUp old.left_out new.left_out (number_if left_out_in line)
   pub offers_left_out :
       GoesUp old.offers_left_out new.offers_left_out (number_if offers_left_out_in line)
+  pub longest_wait :
+      new.longest_wait ≡ max old.longest_wait (number_if longest_wait_in line)
   pub drawn : new.drawn ≡ old.drawn
   pub tallies : NotesEach (λ question. names_if (names_of old.drawn question) line) QUESTIONS
       old.tallies.items new.tallies.items

@@ -8,7 +8,7 @@ use Rattle.report.specs.Questions.{help_of, labels_of, metric_of}
 use Rattle.report.specs.declared.counting.Report.{Report}
 use Rattle.report.specs.declared.question.LineQuestion.TheVariants.{Kind}
 use Rattle.report.specs.declared.question.Question.{Question}
-use Rattle.report.specs.declared.question.Question.TheVariants.{Line}
+use Rattle.report.specs.declared.question.Question.TheVariants.{Line, Responses}
 use Rattle.report.specs.declared.question.TheConstants.{QUESTIONS}
 use Rattle.report.specs.declared.metrics.MetricKind.{MetricKind}
 use Rattle.report.specs.declared.metrics.MetricKind.TheVariants.{Counter, Gauge}
@@ -72,6 +72,11 @@ module _ (kind : MetricKind) where
   number_metric metric help n =
       head metric help ++ metric_name metric ++ codes " " ++ decimal n ++ codes "\n"
 
+  -- the same in seconds, of a number of microseconds
+  unfoldable pub seconds_metric : List ℕ → List ℕ → ℕ → List ℕ
+  seconds_metric metric help microseconds =
+      head metric help ++ metric_name metric ++ codes " " ++ decimal microseconds ++ codes "e-6\n"
+
   abbrev pub sample : List ℕ → List ℕ → ℕ → List ℕ
   sample metric labels n =
       metric_name metric ++ codes "{" ++ labels ++ codes "} " ++ decimal n ++ codes "\n"
@@ -97,25 +102,35 @@ module _ (kind : MetricKind) where
       if length (metric_of question) == 0 then []
       else metric (metric_of question) (help_of question) (labels_of question) t
 
-  -- ---- the report
+-- ---- the report
 
+-- a maximum isn't a counter: lines that were counted may be counted no more
+abbrev pub longest_wait : Report → List ℕ
+longest_wait r =
+    seconds_metric Gauge (codes "rollout_longest_wait_seconds")
+    (codes "Longest wait of a client.") r.longest_wait
+
+module _ (kind : MetricKind) where
   abbrev pub numbers : Report → List ℕ
   numbers r =
-      number_metric (codes "rollout_log_foreign_lines") (codes "Lines not the server's.") r.foreign
-      ++ number_metric (codes "rollout_log_lost_lines") (codes "Lines that the log lost.") r.lost
-      ++ number_metric (codes "rollout_apps_left_out") (codes "Apps that lines leave out.")
+      number_metric kind (codes "rollout_log_foreign_lines") (codes "Lines not the server's.")
+      r.foreign
+      ++ number_metric kind (codes "rollout_log_lost_lines") (codes "Lines that the log lost.")
+      r.lost
+      ++ number_metric kind (codes "rollout_apps_left_out") (codes "Apps that lines leave out.")
       r.left_out
-      ++ number_metric (codes "rollout_offers_left_out") (codes "Offers among these.")
+      ++ number_metric kind (codes "rollout_offers_left_out") (codes "Offers among these.")
       r.offers_left_out
 
-  -- the numbers of lines come after the lines by kind
+  -- the numbers of lines come after the lines by kind, and the longest wait after the replies
   abbrev pub numbers_after : Question → Report → List ℕ
   numbers_after (Line Kind) r = numbers r
+  numbers_after Responses r = longest_wait r
   numbers_after _ r = []
 
   abbrev pub metrics : Report → List Question → List Tally → List ℕ
   metrics r (question ∷ questions) (t ∷ tallies) =
-      metric_text question t ++ numbers_after question r ++ metrics r questions tallies
+      metric_text kind question t ++ numbers_after question r ++ metrics r questions tallies
   metrics r questions tallies = []
 
   abbrev pub exposition : Report → List ℕ

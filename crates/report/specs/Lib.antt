@@ -7,6 +7,7 @@ pub mod Names
 pub mod Objects
 pub mod Events
 pub mod Courses
+pub mod Responses
 pub mod Questions
 pub mod Counts
 pub mod Reading

@@ -19,6 +19,7 @@ use Rattle.report.specs.declared.question.AppQuestion.TheVariants.{UpdateCheckAt
 use Rattle.report.specs.declared.question.AppQuestion.TheVariants.{OfferedAt}
 use Rattle.report.specs.declared.question.LineQuestion.{LineQuestion}
 use Rattle.report.specs.declared.question.LineQuestion.TheVariants.{Kind, Refusal, Load}
+use Rattle.report.specs.declared.question.LineQuestion.TheVariants.{LoadDigest}
 
 -- ---- names
 
@@ -177,20 +178,30 @@ loaded line =
     (decimal (unwrap_or line.generation 0))
     (text_or_mark line.path)
 
--- whether the question is about this line: any with a kind, a connection that was refused, or a
--- load that succeeded
+-- the time, the generation and the digest
+abbrev pub loaded_digest : LineMembers → RowName
+loaded_digest line =
+    three (text_or_mark line.time)
+    (decimal (unwrap_or line.generation 0))
+    (text_or_mark line.digest)
+
+-- whether the question is about this line: any with a kind, a connection that was refused, a
+-- load that succeeded, or one whose digest is known
 abbrev pub is_about_line : LineQuestion → LineMembers → Bool
 is_about_line Kind line = is_some line.kind
 is_about_line Refusal line =
     is_kind (codes "connection") line && is_some line.refusal
 is_about_line Load line =
     is_kind (codes "load") line && is_some line.generation
+is_about_line LoadDigest line =
+    is_kind (codes "load") line && is_some line.generation && is_some line.digest
 
 -- the name of such a line
 abbrev pub line_name_of : LineQuestion → LineMembers → RowName
 line_name_of Kind line = one (text_or_mark line.kind)
 line_name_of Refusal line = refused line
 line_name_of Load line = loaded line
+line_name_of LoadDigest line = loaded_digest line
 
 abbrev pub line_name : LineQuestion → LineMembers → Option RowName
 line_name question line = if_holds (is_about_line question line) (line_name_of question line)

@@ -6,13 +6,14 @@ use Rattle.report.specs.Courses.{chart_names}
 use Rattle.report.specs.Events.{event_names}
 use Rattle.report.specs.Members.{LineMembers}
 use Rattle.report.specs.Names.{app_names, line_names}
+use Rattle.report.specs.Responses.{response_names}
 use Rattle.report.specs.Tallies.{RowName, IsTally}
 use Rattle.report.specs.declared.question.AppQuestion.TheVariants as of_app
 use Rattle.report.specs.declared.question.ChartQuestion.TheVariants as of_chart
 use Rattle.report.specs.declared.question.EventQuestion.TheVariants as of_event
 use Rattle.report.specs.declared.question.LineQuestion.TheVariants as of_line
 use Rattle.report.specs.declared.question.Question.{Question}
-use Rattle.report.specs.declared.question.Question.TheVariants.{App, Chart, Event, Line}
+use Rattle.report.specs.declared.question.Question.TheVariants.{App, Chart, Event, Line, Responses}
 use Rattle.report.specs.declared.tally.Tally.{Tally}
 
 -- ---- what is counted
@@ -22,6 +23,7 @@ abbrev pub names_of : (drawn : Bool) → Question → LineMembers → List RowNa
 names_of drawn (Line question) line = line_names question line
 names_of drawn (App question) line = app_names question line
 names_of drawn (Event question) line = event_names question line
+names_of drawn Responses line = response_names line
 names_of drawn (Chart question) line = if drawn then chart_names question line else []
 
 -- the maximum number of rows
@@ -44,6 +46,8 @@ abbrev pub member_of : Question → List ℕ
 member_of (Line of_line.Kind) = codes "kinds"
 member_of (Line of_line.Refusal) = codes "refusals"
 member_of (Line of_line.Load) = codes "loads"
+member_of (Line of_line.LoadDigest) = codes "load_digests"
+member_of Responses = codes "responses"
 member_of (App of_app.UpdateCheck) = codes "update_checks"
 member_of (App of_app.Offered) = codes "offered"
 member_of (App of_app.Unoffered) = codes "unoffered"
@@ -73,6 +77,7 @@ abbrev pub labels_of : Question → List (List ℕ)
 labels_of (Line of_line.Kind) = codes "kind" ∷ []
 labels_of (Line of_line.Refusal) = codes "status" ∷ codes "rule" ∷ []
 labels_of (Line of_line.Load) = codes "time" ∷ codes "generation" ∷ codes "path" ∷ []
+labels_of Responses = codes "status" ∷ []
 labels_of (App of_app.Offered) = codes "app" ∷ codes "release" ∷ []
 labels_of (App of_app.Hour) = codes "app" ∷ codes "hour" ∷ codes "version" ∷ []
 labels_of (Event of_event.Result) =
@@ -83,6 +88,7 @@ labels_of _ = codes "app" ∷ []
 abbrev pub metric_of : Question → List ℕ
 metric_of (Line of_line.Kind) = codes "rollout_log_lines"
 metric_of (Line of_line.Refusal) = codes "rollout_refusals"
+metric_of Responses = codes "rollout_responses"
 metric_of (App of_app.UpdateCheck) = codes "rollout_asks"
 metric_of (App of_app.Offered) = codes "rollout_offers"
 metric_of (App of_app.Unoffered) = codes "rollout_no_updates"
@@ -96,6 +102,7 @@ metric_of _ = []
 abbrev pub help_of : Question → List ℕ
 help_of (Line of_line.Kind) = codes "Lines by kind."
 help_of (Line of_line.Refusal) = codes "Requests that were refused."
+help_of Responses = codes "Replies by status."
 help_of (App of_app.UpdateCheck) = codes "Asks for an update."
 help_of (App of_app.Offered) = codes "Asks that were offered a release."
 help_of (App of_app.Unoffered) = codes "Asks that got none."

@@ -13,6 +13,7 @@ use crate::log_events::{is_event, is_within, value_in};
 use crate::log_line::LogLine;
 use crate::note::note_questions;
 use crate::question::{QUESTIONS, Question};
+use crate::responses::longest_wait_in;
 use crate::tally::Tally;
 use crate::window::Window;
 use serde_json::Value;
@@ -30,6 +31,8 @@ pub struct Report {
     /// Apps that lines leave out, and how many of these were offered a release.
     pub left_out: u64,
     pub offers_left_out: u64,
+    /// The longest wait of a client for a worker, in microseconds.
+    pub longest_wait: u64,
     /// Whether a chart will be drawn. If not, nothing is counted for it.
     pub drawn: bool,
     /// The tables, in the order of `QUESTIONS`.
@@ -48,6 +51,7 @@ impl Report {
             lost: 0,
             left_out: 0,
             offers_left_out: 0,
+            longest_wait: 0,
             drawn,
             tallies,
         })
@@ -148,10 +152,12 @@ impl Report {
         let lost = lost_in(line);
         let left_out = left_out_in(line);
         let offers = offers_left_out_in(line);
+        let longest_wait = longest_wait_in(line);
         self.lines = raised(self.lines, 1);
         self.lost = raised(self.lost, lost);
         self.left_out = raised(self.left_out, left_out);
         self.offers_left_out = raised(self.offers_left_out, offers);
+        self.longest_wait = self.longest_wait.max(longest_wait);
         let drawn = self.drawn;
         note_questions(alloc, drawn, &mut self.tallies, line)?;
         Ok(())

@@ -6,7 +6,7 @@ ghost use Rattle.report.specs.Exposition as specs;
 ghost use Rattle.printing.specs.Pushed.{Puts};
 
 use crate::counting::Report;
-use crate::metrics::{MetricKind, push_metric, push_number};
+use crate::metrics::{MetricKind, push_metric, push_number, push_seconds};
 use crate::question::{LineQuestion, QUESTIONS, Question};
 use crate::tally::Tally;
 use std::alloc::{AllocError, Global};
@@ -56,7 +56,7 @@ fn push_metrics(
     Ok(())
 }
 
-// The numbers of lines come after the lines by kind.
+// The numbers of lines come after the lines by kind, and the longest wait after the replies.
 fn push_numbers_after(
     text: &mut String,
     kind: MetricKind,
@@ -68,8 +68,21 @@ fn push_numbers_after(
 {
     match question {
         Question::Line(LineQuestion::Kind) => push_numbers(text, kind, report),
+        Question::Responses => push_longest_wait(text, report),
         _ => Ok(()),
     }
+}
+
+fn push_longest_wait(text: &mut String, report: &Report) -> Result<(), AllocError>
+    ensures { OnOk result (Puts text.old text.new (specs.longest_wait report.now)) }
+{
+    push_seconds(
+        text,
+        MetricKind::Gauge,
+        "rollout_longest_wait_seconds",
+        "Longest wait of a client.",
+        report.longest_wait,
+    )
 }
 
 fn push_numbers(text: &mut String, kind: MetricKind, report: &Report) -> Result<(), AllocError>

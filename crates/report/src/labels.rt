@@ -27,8 +27,8 @@ pub(crate) fn push_labels(text: &mut String, labels: &[&str], name: &str) -> Res
     Ok(())
 }
 
-/// Appends a label with its value.
-pub(crate) fn push_label(text: &mut String, name: &str, value: &str) -> Result<(), AllocError>
+/// Appends a label with its value, which mustn't have a line feed: a sample is one line.
+pub fn push_label(text: &mut String, name: &str, value: &str) -> Result<(), AllocError>
     ensures { OnOk result (Puts text.old text.new (specs.label name.now value.now)) }
 {
     write!(text, "{name}=\"")?;

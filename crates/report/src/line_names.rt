@@ -17,6 +17,9 @@ pub(crate) fn is_about_line(question: LineQuestion, line: &LogLine<'_>) -> bool
         LineQuestion::Kind => line.kind.is_some(),
         LineQuestion::Refusal => line.is_kind("connection") && line.refusal.is_some(),
         LineQuestion::Load => line.is_kind("load") && line.generation.is_some(),
+        LineQuestion::LoadDigest => {
+            line.is_kind("load") && line.generation.is_some() && line.digest.is_some()
+        }
     }
 }
 
@@ -33,6 +36,7 @@ pub(crate) fn line_name_of(
         LineQuestion::Kind => one(alloc, text_or_mark(line.kind)),
         LineQuestion::Refusal => refused(alloc, line),
         LineQuestion::Load => loaded(alloc, line),
+        LineQuestion::LoadDigest => loaded_digest(alloc, line),
     }
 }
 
@@ -53,4 +57,13 @@ fn loaded(alloc: Global, line: &LogLine<'_>) -> Result<String, AllocError>
     let path = text_or_mark(line.path);
     let generation = decimal(alloc, line.generation.unwrap_or(0))?;
     three(alloc, time, generation.as_str(), path)
+}
+
+fn loaded_digest(alloc: Global, line: &LogLine<'_>) -> Result<String, AllocError>
+    ensures { IfOk result (λ name. string_bytes name ≡ specs.loaded_digest line.now) }
+{
+    let time = text_or_mark(line.time);
+    let digest = text_or_mark(line.digest);
+    let generation = decimal(alloc, line.generation.unwrap_or(0))?;
+    three(alloc, time, generation.as_str(), digest)
 }

@@ -1,7 +1,8 @@
 //! What a report reads of a line, and of the apps in it. It is read once, and then each question
 //! looks at it.
 
-ghost use Rattle.std.specs.Prelude.{◌≡◌, IfOk};
+ghost use Rattle.std.specs.Prelude.{◌≡◌, ◌++◌, IfOk, codes, decimal};
+ghost use Rattle.std.specs.String.{string_bytes};
 ghost use Rattle.serde_json.specs.View.{view, items_view};
 ghost use Rattle.report.specs.Members as specs;
 ghost use Rattle.report.specs.Windows.{is_kind};
@@ -10,6 +11,9 @@ use crate::log_events::{flag_in, is_text, list_in, number_in, text_in};
 use serde_json::Value;
 use std::alloc::{AllocError, Global};
 use std::marker::Model;
+
+/// The statuses of a server's replies.
+const STATUSES: [u64; 9] = [200, 400, 404, 405, 411, 413, 431, 500, 503];
 
 /// The members of an app.
 #[derive(Drop)]
@@ -51,6 +55,7 @@ pub(crate) struct LogLine<'a> {
     pub(crate) kind: Option<&'a str>,
     pub(crate) refusal: Option<&'a str>,
     pub(crate) path: Option<&'a str>,
+    pub(crate) digest: Option<&'a str>,
     pub(crate) status: Option<u64>,
     pub(crate) generation: Option<u64>,
     pub(crate) lines: Option<u64>,
@@ -58,6 +63,11 @@ pub(crate) struct LogLine<'a> {
     pub(crate) offers_left_out: Option<u64>,
     pub(crate) id: Option<bool>,
     pub(crate) apps: Vec<LogApp<'a>>,
+    /// Of a line of totals: each status with the number of replies of it, the number of
+    /// connections that got no whole reply, and the longest wait in microseconds.
+    pub(crate) responses: Vec<(u64, u64)>,
+    pub(crate) dropped: u64,
+    pub(crate) longest_wait: u64,
 }
 
 impl<'a> Model for LogLine<'a> {
@@ -71,6 +81,7 @@ impl<'a> Model for LogLine<'a> {
       kind = option_copied l.kind;
       refusal = option_copied l.refusal;
       path = option_copied l.path;
+      digest = option_copied l.digest;
       status = l.status;
       generation = l.generation;
       lines = l.lines;
@@ -78,6 +89,9 @@ impl<'a> Model for LogLine<'a> {
       offers_left_out = l.offers_left_out;
       id = l.id;
       apps = l.apps.items;
+      responses = l.responses.items;
+      dropped = l.dropped;
+      longest_wait = l.longest_wait;
     } };
 }
 
@@ -125,17 +139,67 @@ fn apps_in<'a>(alloc: Global, line: &'a Value) -> Result<Vec<LogApp<'a>>, AllocE
     }
 }
 
+fn is_totals(line: &Value) -> bool
+    ensures { result ≡ specs.is_totals (view line.now) }
+{
+    is_text("totals", text_in(line, "kind"))
+}
+
+// A number of a line of totals, or 0.
+fn totals_number(line: &Value, name: &str) -> u64
+    ensures { result ≡ specs.totals_number name.now (view line.now) }
+{
+    if is_totals(line) {
+        number_in(line, name).unwrap_or(0)
+    } else {
+        0
+    }
+}
+
+fn member_of(alloc: Global, status: u64) -> Result<String, AllocError>
+    ensures { IfOk result (λ s. string_bytes s ≡ codes "status_" ++ decimal status) }
+{
+    format!(in alloc; "status_{status}")
+}
+
+// Each status with the number of replies of it.
+fn each_status(alloc: Global, line: &Value, statuses: &[u64]) -> Result<Vec<(u64, u64)>, AllocError>
+    ensures { IfOk result
+        (λ found. found.items ≡ specs.each_status (view line.now) statuses.now) }
+{
+    let mut found = Vec::with_capacity(alloc, statuses.len())?;
+    let mut left = statuses;
+    while let [status, rest @ ..] = left {
+        let member = member_of(alloc, *status)?;
+        let count = totals_number(line, member.as_str());
+        found.push((*status, count))?;
+        left = rest;
+    }
+    Ok(found)
+}
+
+fn responses_in(alloc: Global, line: &Value) -> Result<Vec<(u64, u64)>, AllocError>
+    ensures { IfOk result (λ found. found.items ≡ specs.responses_in (view line.now)) }
+{
+    if !is_totals(line) {
+        return Ok(Vec::new(alloc));
+    }
+    each_status(alloc, line, &STATUSES)
+}
+
 impl<'a> LogLine<'a> {
     /// The members of a line.
     pub(crate) fn of(alloc: Global, line: &'a Value) -> Result<LogLine<'a>, AllocError>
         ensures { IfOk result (λ members. members ≡ specs.line_members (view line.now)) }
     {
+        let responses = responses_in(alloc, line)?;
         let apps = apps_in(alloc, line)?;
         Ok(LogLine {
             time: text_in(line, "time"),
             kind: text_in(line, "kind"),
             refusal: text_in(line, "refusal"),
             path: text_in(line, "path"),
+            digest: text_in(line, "digest"),
             status: number_in(line, "status"),
             generation: number_in(line, "generation"),
             lines: number_in(line, "lines"),
@@ -143,6 +207,9 @@ impl<'a> LogLine<'a> {
             offers_left_out: number_in(line, "offers_left_out"),
             id: flag_in(line, "id"),
             apps,
+            responses,
+            dropped: totals_number(line, "dropped"),
+            longest_wait: totals_number(line, "longest_wait"),
         })
     }
 

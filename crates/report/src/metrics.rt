@@ -58,6 +58,23 @@ pub(crate) fn push_number(
     write!(text, "{n}\n")
 }
 
+/// Appends a metric in seconds with one number, which is given in microseconds.
+#[tactic(auto, unfolding(crate::specs::Exposition::seconds_metric))]
+pub(crate) fn push_seconds(
+    text: &mut String,
+    kind: MetricKind,
+    metric: &str,
+    help: &str,
+    microseconds: u64,
+) -> Result<(), AllocError>
+    ensures { OnOk result (Puts text.old text.new
+        (specs.seconds_metric kind metric.now help.now microseconds)) }
+{
+    push_head(text, kind, metric, help)?;
+    push_name(text, kind, metric, " ")?;
+    write!(text, "{microseconds}e-6\n")
+}
+
 /// Appends the name of a metric, and a text after it.
 #[tactic(auto, unfolding(crate::specs::Exposition::metric_name))]
 pub(crate) fn push_name(

@@ -14,6 +14,7 @@ use crate::events::note_events;
 use crate::line_names::{is_about_line, line_name_of};
 use crate::log_line::{LogApp, LogLine};
 use crate::question::{AppQuestion, EventQuestion, LineQuestion, QUESTIONS, Question};
+use crate::responses::note_responses;
 use crate::tally::{Tally, note_nothing};
 use std::alloc::{AllocError, Global};
 
@@ -64,6 +65,7 @@ fn note_question(
         Question::Line(question) => note_line(alloc, tally, question, line),
         Question::App(question) => note_apps(alloc, tally, question, line),
         Question::Event(question) => note_ends(alloc, tally, question, line),
+        Question::Responses => note_responses(alloc, tally, line),
         Question::Chart(question) => {
             if drawn {
                 note_chart(alloc, tally, question, line)

@@ -10,6 +10,9 @@ pub enum Question {
     Line(LineQuestion),
     App(AppQuestion),
     Event(EventQuestion),
+    /// The replies that a line of totals counts: the status of each, or `none` for a connection
+    /// that got no whole reply.
+    Responses,
     Chart(ChartQuestion),
 }
 
@@ -49,8 +52,10 @@ pub enum LineQuestion {
     Kind,
     /// The status and the rule of a refusal.
     Refusal,
-    /// A load that succeeded.
+    /// A load that succeeded: its time, its generation and its path.
     Load,
+    /// The same with the digest in place of the path.
+    LoadDigest,
 }
 
 /// About an event of an app, if it is the end of an install.
@@ -81,7 +86,7 @@ pub enum ChartQuestion {
 }
 
 /// The questions with a table, in the order of a screen.
-pub static QUESTIONS: [Question; 17] = [
+pub static QUESTIONS: [Question; 19] = [
     Question::Line(LineQuestion::Kind),
     Question::Line(LineQuestion::Load),
     Question::App(AppQuestion::UpdateCheck),
@@ -91,11 +96,13 @@ pub static QUESTIONS: [Question; 17] = [
     Question::App(AppQuestion::Hour),
     Question::Event(EventQuestion::Result),
     Question::Line(LineQuestion::Refusal),
+    Question::Responses,
     Question::App(AppQuestion::Unknown),
     Question::App(AppQuestion::WithoutCohort),
     Question::App(AppQuestion::WithoutId),
     Question::App(AppQuestion::CutEvent),
     Question::Event(EventQuestion::Ended),
+    Question::Line(LineQuestion::LoadDigest),
     Question::Chart(ChartQuestion::Versions),
     Question::Chart(ChartQuestion::ByMinute),
     Question::Chart(ChartQuestion::ByHour),
@@ -110,6 +117,8 @@ impl Question {
             Question::Line(LineQuestion::Kind) => "kinds",
             Question::Line(LineQuestion::Refusal) => "refusals",
             Question::Line(LineQuestion::Load) => "loads",
+            Question::Line(LineQuestion::LoadDigest) => "load_digests",
+            Question::Responses => "responses",
             Question::App(AppQuestion::UpdateCheck) => "update_checks",
             Question::App(AppQuestion::Offered) => "offered",
             Question::App(AppQuestion::Unoffered) => "unoffered",

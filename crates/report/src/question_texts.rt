@@ -42,6 +42,7 @@ impl Question {
             Question::Line(LineQuestion::Kind) => &["kind"],
             Question::Line(LineQuestion::Refusal) => &["status", "rule"],
             Question::Line(LineQuestion::Load) => &["time", "generation", "path"],
+            Question::Responses => &["status"],
             Question::App(AppQuestion::Offered) => &["app", "release"],
             Question::App(AppQuestion::Hour) => &["app", "hour", "version"],
             Question::Event(EventQuestion::Result) => &["result", "app", "from", "to"],
@@ -56,6 +57,7 @@ impl Question {
         match self {
             Question::Line(LineQuestion::Kind) => "rollout_log_lines",
             Question::Line(LineQuestion::Refusal) => "rollout_refusals",
+            Question::Responses => "rollout_responses",
             Question::App(AppQuestion::UpdateCheck) => "rollout_asks",
             Question::App(AppQuestion::Offered) => "rollout_offers",
             Question::App(AppQuestion::Unoffered) => "rollout_no_updates",
@@ -75,6 +77,7 @@ impl Question {
         match self {
             Question::Line(LineQuestion::Kind) => "Lines by kind.",
             Question::Line(LineQuestion::Refusal) => "Requests that were refused.",
+            Question::Responses => "Replies by status.",
             Question::App(AppQuestion::UpdateCheck) => "Asks for an update.",
             Question::App(AppQuestion::Offered) => "Asks that were offered a release.",
             Question::App(AppQuestion::Unoffered) => "Asks that got none.",

@@ -1,7 +1,7 @@
 //! A table that counts names. It has at most `limit` rows. Names that get no row are counted
 //! together, so memory is bounded for any log.
 
-ghost use Rattle.std.specs.Prelude.{◌≡◌, [], ◌∷◌, None, OnOk};
+ghost use Rattle.std.specs.Prelude.{◌≡◌, ◌<◌, [], ◌∷◌, None, OnOk, replicate};
 ghost use Rattle.std.specs.String.{string_bytes};
 ghost use Rattle.std.specs.BTreeMap.{get_by_text};
 ghost use Rattle.report.specs.Tallies.{IsTally, Notes, Sets, with_others};
@@ -73,26 +73,36 @@ impl Tally {
     }
 
     /// Counts a name.
-    #[tactic(auto, using(crate::proofs::Tallied::goes_up))]
     pub(crate) fn note(&mut self, name: String) -> Result<(), AllocError>
         ensures { OnOk result (Notes self.old self.new (string_bytes name ∷ [])) }
     {
+        self.note_times(name, 1)
+    }
+
+    /// Counts a name as often as that.
+    #[tactic(auto, using(crate::proofs::Tallied::notes_no_times))]
+    pub(crate) fn note_times(&mut self, name: String, times: u64) -> Result<(), AllocError>
+        ensures { OnOk result (Notes self.old self.new (replicate times (string_bytes name))) }
+    {
+        if times == 0 {
+            return Ok(());
+        }
         match self.count_of(name.as_str()) {
-            Some(count) => self.set(name, count.saturating_add(1)),
-            None => self.note_new(name),
+            Some(count) => self.set(name, count.saturating_add(times)),
+            None => self.note_new(name, times),
         }
     }
 
     // Counts a name without a row.
-    #[tactic(auto, using(crate::proofs::Tallied::gets_row, crate::proofs::Tallied::joins_others))]
-    fn note_new(&mut self, name: String) -> Result<(), AllocError>
-        requires { get_by_text self.old.rows (string_bytes name) ≡ None }
-        ensures { OnOk result (Notes self.old self.new (string_bytes name ∷ [])) }
+    fn note_new(&mut self, name: String, times: u64) -> Result<(), AllocError>
+        requires new { get_by_text self.old.rows (string_bytes name) ≡ None }
+        requires some { 0 < times }
+        ensures { OnOk result (Notes self.old self.new (replicate times (string_bytes name))) }
     {
         if self.rows.len() < self.limit {
-            return self.set(name, 1);
+            return self.set(name, times);
         }
-        self.others = self.others.saturating_add(1);
+        self.others = self.others.saturating_add(times);
         Ok(())
     }
 }
