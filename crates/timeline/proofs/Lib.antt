@@ -1,2 +1,4 @@
+pub mod Enclosed
+pub mod Kept
 pub mod Raised
 pub mod Written

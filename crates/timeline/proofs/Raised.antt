@@ -1,7 +1,7 @@
 -- Adding the rows to the numbers one by one adds their sums.
 use Rattle.std.proofs.Common.{◌≡◌, ◌∙◌, refl, sym, ap, ap₂, ℕ, zero, suc, ◌+◌, ◌<◌, ◌≤◌}
 use Rattle.std.proofs.Common.{List, [], ◌∷◌, length, get_or, set, arith, Bool, true, false}
-use Rattle.std.proofs.Common.{◌==◌, if◌then◌else◌, Option, Some, None, sum_by}
+use Rattle.std.proofs.Common.{◌==◌, if◌then◌else◌, Option, Some, None}
 use Rattle.std.proofs.Common.{◌-◌, ◌/◌, String, string_bytes, subst, nat_le, nat_lt}
 use Rattle.std.specs.Prelude.{option_and_then}
 use Rattle.std.specs.declared.alloc.Global.{Global}
@@ -14,7 +14,7 @@ use Rattle.timeline.specs.Marks.{Drawn, moment_of}
 use Rattle.timeline.specs.declared.bins.Bins.{Bins}
 
 -- numbers raised by amounts that are equal from an index on
-same_raised : (place : ℕ) (f g : ℕ → ℕ) (numbers : List ℕ)
+pub same_raised : (place : ℕ) (f g : ℕ → ℕ) (numbers : List ℕ)
     → ((p : ℕ) → place ≤ p → f p ≡ g p) → raised_from place f numbers ≡ raised_from place g numbers
 same_raised place f g [] same = refl
 same_raised place f g (n ∷ numbers) same =

@@ -3,4 +3,5 @@ pub mod Courses
 pub mod Loads
 pub mod Marks
 pub mod Newest
+pub mod SeriesRows
 pub mod Versions

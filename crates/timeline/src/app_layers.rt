@@ -110,7 +110,14 @@ fn draw_layers<'a>(
     let mut index: usize = 0;
     for version in versions {
         draw_layer(alloc, page, class_of(index), totals, below, most)?;
-        raise_by_version(below, source.rows, drawn, version.as_str(), &source.bins)?;
+        raise_by_version(
+            alloc,
+            below,
+            source.rows,
+            drawn,
+            version.as_str(),
+            &source.bins,
+        )?;
         index = index.wrapping_add(1);
     }
     draw_layer(alloc, page, Class::Others, totals, below, most)

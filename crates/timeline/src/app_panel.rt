@@ -48,7 +48,7 @@ pub(crate) fn draw_panel(
     draw_strips(alloc, picture, source, app, versions.as_slice())?;
     draw_axis(picture, &source.bins);
     draw_loads(picture, &source.bins, source.loads);
-    draw_legend(picture, source.rows, app, versions.as_slice())?;
+    draw_legend(alloc, picture, source.rows, app, versions.as_slice())?;
     picture.close();
     picture.line();
     Ok(top.saturating_add(panels_height(1, versions.len())))

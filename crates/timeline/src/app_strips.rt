@@ -11,6 +11,7 @@ use crate::course::{course_of, newest_course_of, source_of};
 use crate::page_strip::{caption, class_of, close_strip, open_strip};
 use crate::steps::{Step, areas, edges, share_of, steps_if};
 use crate::strips::steps_of_version;
+use crate::times::Times;
 use crate::versions::versions_in_rows;
 use markup::{Attribute, Class, Document, Tag};
 use report::Report;
@@ -25,12 +26,13 @@ pub fn draw_app(
     alloc: Global,
     page: &mut Document,
     report: &Report,
+    times: Times,
     app: &str,
 ) -> Result<(), AllocError> {
-    if let Some(course) = course_of(report) {
+    if let Some(course) = course_of(report, times) {
         draw_strips(alloc, page, &source_of(course), app)?;
     }
-    match newest_course_of(report) {
+    match newest_course_of(report, times) {
         Some(course) => draw_strips(alloc, page, &source_of(course), app),
         None => Ok(()),
     }

@@ -6,6 +6,7 @@ ghost use Rattle.timeline.specs.Marks.{drawn_by, of_version};
 
 use crate::bins::{Bins, bin_of};
 use crate::marks::{Series, added};
+use crate::series_rows::names_of;
 use std::alloc::{AllocError, Global};
 use std::collections::BTreeMap;
 
@@ -22,7 +23,7 @@ pub(crate) fn counts_by_bin(
         ≡ specs.counts_by_bin bins.now (drawn_by drawn.entry) rows.now.entries) }
 {
     let mut counts = no_counts(alloc, bins)?;
-    raise(counts.as_mut_slice(), rows, drawn, bins)?;
+    raise(alloc, counts.as_mut_slice(), rows, drawn, bins)?;
     Ok(counts)
 }
 
@@ -39,6 +40,7 @@ pub(crate) fn no_counts(alloc: Global, bins: &Bins) -> Result<Vec<u64>, AllocErr
 // Adds the series' counts to the numbers of the bins. Also returns `AllocError` if a number
 // overflows 64 bits.
 fn raise(
+    alloc: Global,
     numbers: &mut [u64],
     rows: &BTreeMap<String, u64>,
     drawn: Series<'_>,
@@ -51,7 +53,8 @@ fn raise(
         ≡ specs.raised bins.now (drawn_by drawn.entry) rows.now.entries numbers.old) }
     ensures all { length numbers.new ≡ length numbers.old }
 {
-    for (name, n) in rows.iter() {
+    let names = names_of(alloc, drawn)?;
+    for (name, n) in rows.range(&names.first..&names.end) {
         raise_by(numbers, bins, drawn, name.as_str(), *n)?;
     }
     Ok(())
@@ -60,6 +63,7 @@ fn raise(
 /// Adds the counts of one version of the series to the numbers of the bins. Also returns
 /// `AllocError` if a number overflows 64 bits.
 pub(crate) fn raise_by_version<'a>(
+    alloc: Global,
     numbers: &mut [u64],
     rows: &BTreeMap<String, u64>,
     drawn: Series<'a>,
@@ -72,7 +76,7 @@ pub(crate) fn raise_by_version<'a>(
         (of_version (drawn_by drawn.entry) version.now) rows.now.entries numbers.old) }
     ensures all { length numbers.new ≡ length numbers.old }
 {
-    raise(numbers, rows, drawn.of_version(version), bins)
+    raise(alloc, numbers, rows, drawn.of_version(version), bins)
 }
 
 fn raise_by(

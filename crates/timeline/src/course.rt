@@ -4,11 +4,9 @@ ghost use Rattle.std.specs.Prelude.{◌≡◌, IfSome};
 ghost use Rattle.timeline.specs.Bins.{AreBins};
 
 use crate::app_panel::PictureSource;
-use crate::bins::{Bins, bins_over, reach_of};
+use crate::bins::{Bins, Reach, bins_over};
+use crate::times::Times;
 use report::{AppQuestion, ChartQuestion, LineQuestion, Question, Report, Tally};
-
-/// The longest time for a chart by minute: 200 bins of half an hour.
-const MOST_MINUTES: u64 = 6000;
 
 /// The tables for a chart; `counts` has the rows by minute or by hour, which the bins divide.
 #[derive(Clone, Copy)]
@@ -21,33 +19,37 @@ pub(crate) struct Course<'a> {
 }
 
 /// The course of a report; `None` if no update check has a readable time.
-pub(crate) fn course_of<'a>(report: &'a Report) -> Option<Course<'a>>
+pub(crate) fn course_of<'a>(report: &'a Report, times: Times) -> Option<Course<'a>>
     ensures { IfSome result (λ course. AreBins course.bins) }
 {
     let by_minute = report.tally(Question::Chart(ChartQuestion::ByMinute))?;
     let by_hour = report.tally(Question::Chart(ChartQuestion::ByHour))?;
-    if is_fine(by_minute) && !begins_later(by_minute, by_hour) {
-        course_by(report, by_minute, false)
+    if is_fine(by_minute, times) && !times.begins_later() {
+        course_by(report, by_minute, times.minutes, false)
     } else {
-        course_by(report, by_hour, true)
+        course_by(report, by_hour, times.hours, true)
     }
 }
 
 /// The course of the newest minutes, if the report has left out earlier ones.
-pub(crate) fn newest_course_of<'a>(report: &'a Report) -> Option<Course<'a>>
+pub(crate) fn newest_course_of<'a>(report: &'a Report, times: Times) -> Option<Course<'a>>
     ensures { IfSome result (λ course. AreBins course.bins) }
 {
     let by_minute = report.tally(Question::Chart(ChartQuestion::ByMinute))?;
-    let by_hour = report.tally(Question::Chart(ChartQuestion::ByHour))?;
-    if is_fine(by_minute) && begins_later(by_minute, by_hour) {
-        course_by(report, by_minute, false)
+    if is_fine(by_minute, times) && times.begins_later() {
+        course_by(report, by_minute, times.minutes, false)
     } else {
         None
     }
 }
 
 // The course by these counts.
-fn course_by<'a>(report: &'a Report, counts: &'a Tally, by_hour: bool) -> Option<Course<'a>>
+fn course_by<'a>(
+    report: &'a Report,
+    counts: &'a Tally,
+    reach: Option<Reach>,
+    by_hour: bool,
+) -> Option<Course<'a>>
     ensures { IfSome result (λ course. AreBins course.bins) }
 {
     let update_checks = report.tally(Question::App(AppQuestion::UpdateCheck))?;
@@ -56,7 +58,7 @@ fn course_by<'a>(report: &'a Report, counts: &'a Tally, by_hour: bool) -> Option
     if update_checks.rows().is_empty() {
         return None;
     }
-    match bins_of_rows(counts, by_hour) {
+    match bins_over(reach?, by_hour) {
         Some(bins) => Some(Course {
             update_checks,
             loads,
@@ -68,32 +70,9 @@ fn course_by<'a>(report: &'a Report, counts: &'a Tally, by_hour: bool) -> Option
     }
 }
 
-// The bins over the times of a table's rows.
-fn bins_of_rows(counts: &Tally, by_hour: bool) -> Option<Bins>
-    ensures { IfSome result AreBins }
-{
-    match reach_of(counts.rows()) {
-        Some(reach) => bins_over(reach, by_hour),
-        None => None,
-    }
-}
-
 // Whether the table by minute is complete, and its time is short.
-fn is_fine(by_minute: &Tally) -> bool {
-    let short = match reach_of(by_minute.rows()) {
-        Some(reach) => reach.greatest.saturating_sub(reach.least) < MOST_MINUTES,
-        None => true,
-    };
-    short && by_minute.others() == 0
-}
-
-// Whether the minutes begin after the first hour.
-fn begins_later(by_minute: &Tally, by_hour: &Tally) -> bool {
-    match (reach_of(by_minute.rows()), reach_of(by_hour.rows())) {
-        (Some(minutes), Some(hours)) => minutes.least / 60 > hours.least,
-        (None, Some(_)) => true,
-        _ => false,
-    }
+fn is_fine(by_minute: &Tally, times: Times) -> bool {
+    times.is_short() && by_minute.others() == 0
 }
 
 /// The data that is drawn.

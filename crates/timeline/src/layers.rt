@@ -29,7 +29,14 @@ pub(crate) fn draw_layers<'a>(
     let mut colour = 1;
     for version in versions {
         draw_layer(alloc, picture, colour, totals, below)?;
-        raise_by_version(below, source.rows, drawn, version.as_str(), &source.bins)?;
+        raise_by_version(
+            alloc,
+            below,
+            source.rows,
+            drawn,
+            version.as_str(),
+            &source.bins,
+        )?;
         colour = next_colour(colour);
     }
     draw_layer(alloc, picture, 0, totals, below)

@@ -6,7 +6,7 @@ ghost use Rattle.timeline.specs.Versions as specs;
 use crate::layers::next_colour;
 use crate::marks::{Series, drawn_count};
 use markup::{Attribute, Document, Tag};
-use std::alloc::AllocError;
+use std::alloc::{AllocError, Global};
 use std::collections::BTreeMap;
 
 /// The update checks, offers, ended installs and failed installs of a version.
@@ -20,6 +20,7 @@ pub struct VersionCounts {
 
 /// Draws a row for each version, from colour 1 on.
 pub(crate) fn draw_legend<'a>(
+    alloc: Global,
     picture: &mut Document,
     rows: &BTreeMap<String, u64>,
     app: &'a str,
@@ -33,7 +34,7 @@ pub(crate) fn draw_legend<'a>(
     let mut top: u64 = 462;
     let mut colour = 1;
     for version in versions {
-        let counts = counts_of_version(rows, app, version.as_str())?;
+        let counts = counts_of_version(alloc, rows, app, version.as_str())?;
         draw_row(picture, top, colour, version.as_str(), counts);
         top = top.saturating_add(20);
         colour = next_colour(colour);
@@ -43,6 +44,7 @@ pub(crate) fn draw_legend<'a>(
 
 /// The counts of a version. Also returns `AllocError` if a number overflows 64 bits.
 pub(crate) fn counts_of_version<'a>(
+    alloc: Global,
     rows: &BTreeMap<String, u64>,
     app: &'a str,
     version: &'a str,
@@ -51,10 +53,22 @@ pub(crate) fn counts_of_version<'a>(
         (λ counts. counts ≡ specs.counts_of_version rows.now.entries app.now version.now) }
 {
     Ok(VersionCounts {
-        asks: drawn_count(rows, Series::of_all("asks", app).of_version(version))?,
-        offers: drawn_count(rows, Series::of_all("offers", app).of_version(version))?,
-        installs: drawn_count(rows, Series::of_all("installs", app).of_version(version))?,
-        failures: drawn_count(rows, Series::of_all("failures", app).of_version(version))?,
+        asks: drawn_count(alloc, rows, Series::of_all("asks", app).of_version(version))?,
+        offers: drawn_count(
+            alloc,
+            rows,
+            Series::of_all("offers", app).of_version(version),
+        )?,
+        installs: drawn_count(
+            alloc,
+            rows,
+            Series::of_all("installs", app).of_version(version),
+        )?,
+        failures: drawn_count(
+            alloc,
+            rows,
+            Series::of_all("failures", app).of_version(version),
+        )?,
     })
 }
 

@@ -25,8 +25,10 @@ mod marks;
 mod newest;
 mod page_strip;
 mod picture;
+mod series_rows;
 mod steps;
 mod strips;
+mod times;
 mod version_course;
 mod versions;
 
@@ -35,4 +37,5 @@ pub use legend::VersionCounts;
 pub use newest::Outcomes;
 pub use page_strip::class_of;
 pub use picture::draw_course;
+pub use times::Times;
 pub use version_course::{VersionCourse, asks_of_app, versions_of_app};

@@ -5,8 +5,9 @@ ghost use Rattle.std.specs.Option.{option_copied};
 ghost use Rattle.report.specs.Exposition.{first, rest};
 ghost use Rattle.timeline.specs.Marks as specs;
 
+use crate::series_rows::names_of;
 use lexing::decimal_within;
-use std::alloc::AllocError;
+use std::alloc::{AllocError, Global};
 use std::collections::BTreeMap;
 
 /// The last minute of the year 9999, counted from 1970; all times of a server's log are before its
@@ -68,6 +69,7 @@ fn moment_in(text: &str) -> Option<u64>
 
 /// The count of a series. Also returns `AllocError` if it overflows 64 bits.
 pub(crate) fn drawn_count(
+    alloc: Global,
     rows: &BTreeMap<String, u64>,
     drawn: Series<'_>,
 ) -> Result<u64, AllocError>
@@ -75,7 +77,8 @@ pub(crate) fn drawn_count(
         (λ n. n ≡ specs.drawn_count rows.now.entries (specs.drawn_by drawn.entry)) }
 {
     let mut count = 0;
-    for (name, n) in rows.iter() {
+    let names = names_of(alloc, drawn)?;
+    for (name, n) in rows.range(&names.first..&names.end) {
         count = added(count, count_if(drawn, name.as_str(), *n))?;
     }
     Ok(count)

@@ -10,6 +10,7 @@ use crate::bins::Bins;
 use crate::course::{Course, course_of, source_of};
 use crate::load_marks::loads_outside;
 use crate::marks::{added, first};
+use crate::times::Times;
 use markup::{Attribute, Document, Tag};
 use report::{Report, Tally};
 use std::alloc::{AllocError, Global};
@@ -35,7 +36,7 @@ pub(crate) struct Undrawn {
 pub fn draw_course(alloc: Global, report: &Report) -> Result<String, AllocError>
     ensures { IfOk result (λ text. IsDocument (string_bytes text)) }
 {
-    match course_of(report) {
+    match course_of(report, Times::of_report(report)) {
         Some(course) => draw_over(alloc, course),
         None => draw_none(alloc),
     }

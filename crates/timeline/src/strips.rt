@@ -61,7 +61,7 @@ fn draw_shares<'a>(
     requires { AreBins source.now.bins }
 {
     let what = drawn.what;
-    let count = drawn_count(source.rows, drawn)?;
+    let count = drawn_count(alloc, source.rows, drawn)?;
     picture.label(LEFT, top.saturating_sub(6), format_args!("{what}: {count}"));
     picture.line();
     draw_strip(alloc, picture, source, drawn, versions, top)
@@ -78,8 +78,8 @@ fn draw_rates<'a>(
 ) -> Result<(), AllocError>
     requires { AreBins source.now.bins }
 {
-    let ended = drawn_count(source.rows, Series::of_all("installs", app))?;
-    let failed = drawn_count(source.rows, Series::of_all("failures", app))?;
+    let ended = drawn_count(alloc, source.rows, Series::of_all("installs", app))?;
+    let failed = drawn_count(alloc, source.rows, Series::of_all("failures", app))?;
     picture.label(
         LEFT,
         top.saturating_sub(6),

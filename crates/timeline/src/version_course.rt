@@ -9,6 +9,7 @@ use crate::course::{course_of, newest_course_of, source_of};
 use crate::legend::{VersionCounts, counts_of_version};
 use crate::marks::{Series, drawn_count};
 use crate::newest::{Outcomes, judged_by, newest_of};
+use crate::times::Times;
 use crate::versions::versions_in_rows;
 use report::Report;
 use std::alloc::{AllocError, Global};
@@ -27,13 +28,14 @@ pub struct VersionCourse {
 pub fn versions_of_app(
     alloc: Global,
     report: &Report,
+    times: Times,
     app: &str,
 ) -> Result<Vec<VersionCourse>, AllocError> {
-    let Some(course) = course_of(report) else {
+    let Some(course) = course_of(report, times) else {
         return Ok(Vec::new(alloc));
     };
     let mut versions = versions_in(alloc, &source_of(course), app)?;
-    if let Some(newest) = newest_course_of(report) {
+    if let Some(newest) = newest_course_of(report, times) {
         judge_each(alloc, &mut versions, &source_of(newest), app)?;
     }
     Ok(versions)
@@ -59,9 +61,14 @@ fn judge_each(
 /// The update checks of an app in its course. Also returns `AllocError` if the number overflows 64
 /// bits.
 // open: of which course: rows.
-pub fn asks_of_app(report: &Report, app: &str) -> Result<u64, AllocError> {
-    match course_of(report) {
-        Some(course) => drawn_count(course.counts.rows(), Series::of_all("asks", app)),
+pub fn asks_of_app(
+    alloc: Global,
+    report: &Report,
+    times: Times,
+    app: &str,
+) -> Result<u64, AllocError> {
+    match course_of(report, times) {
+        Some(course) => drawn_count(alloc, course.counts.rows(), Series::of_all("asks", app)),
         None => Ok(0),
     }
 }
@@ -91,7 +98,7 @@ fn course_of_version(
     ensures { IfOk result
         (IsVersionCourse source.now.bins source.now.rows.now.entries app.now version.now) }
 {
-    let counts = counts_of_version(source.rows, app, version)?;
+    let counts = counts_of_version(alloc, source.rows, app, version)?;
     let newest = newest_of(alloc, source, app, version)?;
     Ok(VersionCourse {
         version: String::from_str(alloc, version)?,
