@@ -59,7 +59,7 @@ where
     };
     let drawn = course.is_some();
     let counted = count_parts(rt, logs, window, places, report, drawn, &mut part);
-    let course = course_with(rt, course, &part);
+    let course = course_with(rt, course, &part, has_read(&counted));
     drop(part);
     let CountedParts { places, is_read } = counted?;
     let course = course?;
@@ -71,11 +71,20 @@ where
     })
 }
 
-// The course with the lines of a report on the new ones.
+// Whether there were new bytes.
+fn has_read(counted: &Result<CountedParts, ReportFault>) -> bool {
+    match counted {
+        Ok(parts) => parts.is_read,
+        Err(_) => false,
+    }
+}
+
+// The course with the lines of a report on the new ones, if there are any.
 fn course_with<R>(
     rt: &R,
     course: Option<Course>,
     part: &Report,
+    is_read: bool,
 ) -> Result<Option<Course>, ReportFault>
 where
     R: AllocGlobal + Clock,
@@ -83,6 +92,9 @@ where
     let Some(course) = course else {
         return Ok(None);
     };
+    if !is_read {
+        return Ok(Some(course));
+    }
     let present = present_minute(rt)?;
     match continued_course(rt.alloc(), course, part, present) {
         Ok(course) => Ok(Some(course)),
