@@ -12,7 +12,7 @@ pub const PAGE_HEAD: &str = r##"<!DOCTYPE html>
 <head>
 <meta charset="utf-8"/>
 <meta http-equiv="Content-Security-Policy"
-  content="default-src 'none'; style-src 'sha256-wzP8NueoYnFAiGdppqGYlA9lMEpt5YY3ryvPwbIeFZs='"/>
+  content="default-src 'none'; style-src 'sha256-ilPpUGigKU0GXa0Ky0t82Yoer+psEKCzG2Ygg6zF09g='"/>
 <meta name="viewport" content="width=device-width, initial-scale=1"/>
 <title>rollout report</title>
 <style>
@@ -45,7 +45,8 @@ code{font:13px/1.5 ui-monospace,monospace;background:var(--soft);color:var(--tex
   padding:2px 6px;border-radius:3px}
 .act code{background:#7a0d12;color:#fff}
 .findings .act code{background:var(--soft);color:var(--text)}
-.name,code{display:inline-block;max-width:100%;vertical-align:top}
+.name,code{display:inline-block;max-width:100%;max-height:6em;overflow-y:auto;
+  vertical-align:top}
 .muted{color:var(--muted);font-size:13px}
 .bad{color:var(--bad)}
 .findings{max-width:1120px;margin:0 auto;padding:12px 24px;list-style:none}
@@ -55,33 +56,31 @@ code{font:13px/1.5 ui-monospace,monospace;background:var(--soft);color:var(--tex
 .findings li.act::before{content:"\2716";color:var(--bad)}
 .wide{overflow-x:auto}
 .wide+.wide{margin-top:16px}
-table{border-collapse:collapse;width:100%}
+table{border-collapse:collapse;min-width:min(100%,600px)}
 th,td{text-align:left;padding:5px 14px 5px 0;border-bottom:1px solid var(--line);font-weight:400;
   vertical-align:top}
 th{color:var(--muted);font-size:13px;white-space:nowrap}
 th.number,td.number{text-align:right;padding-right:0;padding-left:14px;white-space:nowrap}
 td.bad{text-align:right;font-weight:600;white-space:nowrap;padding-right:0;padding-left:14px}
-path.bad{fill:var(--bad)}
 span.v0,span.v1,span.v2,span.v3,span.v4,span.v5{display:inline-block;width:10px;height:10px;
-  margin-right:7px}
-span.v0{background:var(--v0)}
-span.v1{background:var(--v1)}
-span.v2{background:var(--v2)}
-span.v3{background:var(--v3)}
-span.v4{background:var(--v4)}
-span.v5{background:var(--v5)}
-path.v0{fill:var(--v0)}
-path.v1{fill:var(--v1)}
-path.v2{fill:var(--v2)}
-path.v3{fill:var(--v3)}
-path.v4{fill:var(--v4)}
-path.v5{fill:var(--v5)}
+  margin-right:7px;background:var(--c)}
+.v0{--c:var(--v0)}
+.v1{--c:var(--v1)}
+.v2{--c:var(--v2)}
+.v3{--c:var(--v3)}
+.v4{--c:var(--v4)}
+.v5{--c:var(--v5)}
+path{fill:var(--c)}
+path.bad{fill:var(--bad);fill-opacity:1}
+.course svg:nth-of-type(3) path:not(.load,.v0,:has(+.v0)){
+  fill:color-mix(in srgb,var(--c) 30%,var(--back))}
 .strip{display:block;width:100%;height:56px;border-bottom:1px solid var(--muted);
   shape-rendering:crispEdges}
 .limit,.load{fill:none;vector-effect:non-scaling-stroke}
 .limit{stroke:var(--bad);stroke-dasharray:2 3}
 .load{stroke:var(--text);stroke-dasharray:5 3}
 .axis{display:block;width:100%;height:20px;overflow:visible}
+td .axis{width:160px;height:10px;margin:6px 0 0 auto}
 .axis text{font-size:12px;fill:var(--muted);text-anchor:middle}
 .course{padding-right:20px}
 summary{cursor:pointer;font-weight:600}
@@ -89,6 +88,10 @@ pre{font:13px/1.5 ui-monospace,monospace;white-space:pre-wrap}
 @media(max-width:720px){body{font-size:14px}table,th{font-size:13px}section,.band,.findings,
   p.facts{padding-left:16px;padding-right:16px}th,td{padding-right:4px}th.number,td.number,td.bad{
   padding-left:4px}}
+@media(max-width:480px){th:nth-child(2):nth-last-child(6),td:nth-child(2):nth-last-child(6){
+  display:none}}
+@media print{*{print-color-adjust:exact}.name,code{max-height:none}
+  .course,tr{break-inside:avoid}h2,h3{break-after:avoid}}
 </style>
 </head>
 <body>
