@@ -122,6 +122,11 @@ fn is_foreign<R: Files + AllocGlobal>(rt: &R, path: &str) -> bool {
     matches!(may_be_page(rt, path), Ok(false))
 }
 
+// Whether a file may be replaced by a page; none that can't be read.
+fn may_replace<R: Files + AllocGlobal>(rt: &R, path: &str) -> bool {
+    matches!(may_be_page(rt, path), Ok(true))
+}
+
 // A server whose counters are requested and that doesn't reply.
 fn print_server_fault<R, E>(rt: &R, port: Option<u16>, fault: &RequestFault, err: &mut E) -> bool
 where
@@ -200,7 +205,7 @@ where
         }
     }
     match args.page {
-        Some(path) if is_foreign(rt, path) || is_misplaced(rt, path) => {
+        Some(path) if !may_replace(rt, path) || is_misplaced(rt, path) => {
             print_page_fault(rt, path, err)
         }
         _ => false,
