@@ -4,8 +4,8 @@ ghost use Rattle.std.specs.Prelude.{◌≡◌, ◌||◌, IfOk};
 ghost use Rattle.markup.specs.WellFormed.{HasPicture};
 ghost use Rattle.report_page.specs.Pages.{HasPage};
 
-use crate::log_end::newest_of;
-use crate::named_page::{NamedPage, facts_of};
+use crate::log_end::{FoundEnd, end_of_logs};
+use crate::named_page::{NamedPage, page_facts};
 use crate::report_fault::ReportFault;
 use crate::reporting::{text_of, time_of};
 use bounded_files::ResourceFault;
@@ -69,16 +69,16 @@ pub(crate) fn page_if(
     }
 }
 
-/// The time of the logs' last line, if a page is written.
-pub(crate) fn newest_if<R>(
-    rt: &R,
-    drawn: bool,
-    logs: &[&str],
-) -> Result<Option<String>, ResourceFault>
+/// When the logs end, if a page is written that shows it.
+pub(crate) fn end_if<R>(rt: &R, shown: bool, logs: &[&str]) -> Result<FoundEnd, ResourceFault>
 where
     R: Files + AllocGlobal,
 {
-    if drawn { newest_of(rt, logs) } else { Ok(None) }
+    if shown {
+        end_of_logs(rt, logs)
+    } else {
+        Ok(FoundEnd::Unknown)
+    }
 }
 
 /// The texts of a picture and of a page.
@@ -104,8 +104,8 @@ where
     ensures page { IfOk result (λ d. HasPage drawn.page d.page) }
 {
     let written = time_of(rt, moment_if(drawn.page)).map_err(ReportFault::Resource)?;
-    let newest = newest_if(rt, drawn.page, logs).map_err(ReportFault::Resource)?;
-    let facts = facts_of(page, text_of(&written), text_of(&newest));
+    let end = end_if(rt, drawn.page, logs).map_err(ReportFault::Resource)?;
+    let facts = page_facts(page, text_of(&written), end.shown());
     let faults = faults_of(course.as_ref(), report);
     let drawings = match show_if(rt.alloc(), is_drawn(drawn), course, report) {
         Ok(()) => drawings_of(rt.alloc(), drawn, report, faults, facts),

@@ -1,4 +1,4 @@
-//! The time of the last line of logs.
+//! When logs end: the time of their last line.
 
 use crate::log_part::bytes_at;
 use crate::reporting::{fault_of, path_of};
@@ -7,15 +7,13 @@ use json_value::read_json;
 use memchr::memrchr;
 use moments::second_of_time;
 use report::text_in;
+use report_page::LogsEnd;
 use std::alloc::{AllocError, Global};
 use std::rt::Files;
 use std::{fs, io};
 
 /// How many bytes of a log's end are searched: a line that counts has fewer.
 const END: u64 = 0x1_0001;
-
-/// How many of these lines are looked at, the last one first.
-const MOST_LINES: u32 = 100;
 
 /// The time of a line, and its second.
 #[derive(Drop)]
@@ -24,35 +22,65 @@ struct LineTime {
     text: String,
 }
 
-/// The latest of the times of the logs' last lines, as the line has it. None if no log has such a
-/// line among its last ones. Only regular files are looked at.
-pub(crate) fn newest_of<R>(rt: &R, logs: &[&str]) -> Result<Option<String>, ResourceFault>
-where
-    R: Files + AllocGlobal,
-{
-    let mut newest: Option<LineTime> = None;
-    for path in logs {
-        match end_of_log(rt, *path) {
-            Ok(Some(time)) => newest = Some(later(newest, time)),
-            Ok(None) => {}
-            Err(error) => return Err(fault_of(&error)),
+/// What is at a log's end: the time of its last line, or none.
+#[derive(Drop)]
+enum LogTail {
+    Time(LineTime),
+    NoLine,
+    Irregular,
+}
+
+/// When logs end, as `LogsEnd` has it.
+#[derive(Drop)]
+pub(crate) enum FoundEnd {
+    At(String),
+    NoLine,
+    Unknown,
+}
+
+impl FoundEnd {
+    /// What a page says of it.
+    pub(crate) fn shown<'a>(&'a self) -> LogsEnd<'a> {
+        match self {
+            FoundEnd::At(time) => LogsEnd::At(time.as_str()),
+            FoundEnd::NoLine => LogsEnd::NoLine,
+            FoundEnd::Unknown => LogsEnd::Unknown,
         }
-    }
-    match newest {
-        Some(LineTime { text, .. }) => Ok(Some(text)),
-        None => Ok(None),
     }
 }
 
-fn later(newest: Option<LineTime>, time: LineTime) -> LineTime {
-    match newest {
-        Some(newest) if newest.second >= time.second => newest,
+/// The latest of the times of the logs' last lines, as the line has it. It isn't known if none has
+/// such a line, and one isn't a regular file.
+pub(crate) fn end_of_logs<R>(rt: &R, logs: &[&str]) -> Result<FoundEnd, ResourceFault>
+where
+    R: Files + AllocGlobal,
+{
+    let mut latest: Option<LineTime> = None;
+    let mut all_regular = true;
+    for path in logs {
+        match tail_of_log(rt, *path) {
+            Ok(LogTail::Time(time)) => latest = Some(later(latest, time)),
+            Ok(LogTail::NoLine) => {}
+            Ok(LogTail::Irregular) => all_regular = false,
+            Err(error) => return Err(fault_of(&error)),
+        }
+    }
+    match latest {
+        Some(LineTime { text, .. }) => Ok(FoundEnd::At(text)),
+        None if all_regular => Ok(FoundEnd::NoLine),
+        None => Ok(FoundEnd::Unknown),
+    }
+}
+
+fn later(latest: Option<LineTime>, time: LineTime) -> LineTime {
+    match latest {
+        Some(latest) if latest.second >= time.second => latest,
         _ => time,
     }
 }
 
-// The time of a log's last line. A file of another kind isn't opened, since that may wait.
-fn end_of_log<R>(rt: &R, path: &str) -> io::Result<Option<LineTime>>
+// What is at a log's end. A file that isn't regular isn't opened, since that may wait.
+fn tail_of_log<R>(rt: &R, path: &str) -> io::Result<LogTail>
 where
     R: Files + AllocGlobal,
 {
@@ -61,9 +89,12 @@ where
             let bytes = last_bytes(rt, path, found.len())?;
             let time = last_time(rt.alloc(), bytes.as_slice());
             drop(bytes);
-            Ok(time?)
+            match time? {
+                Some(time) => Ok(LogTail::Time(time)),
+                None => Ok(LogTail::NoLine),
+            }
         }
-        _ => Ok(None),
+        _ => Ok(LogTail::Irregular),
     }
 }
 
@@ -79,7 +110,7 @@ where
 // The time of the last line that has one.
 fn last_time(alloc: Global, bytes: &[u8]) -> Result<Option<LineTime>, AllocError> {
     let mut left = bytes;
-    for _ in 0..MOST_LINES {
+    for _ in 0..bytes.len() {
         let Some(last) = last_line(left) else {
             return Ok(None);
         };

@@ -1,6 +1,6 @@
 //! The page that a report is to write.
 
-use report_page::{FolderFacts, PageFacts};
+use report_page::{FolderFacts, LogsEnd, PageFacts};
 use server_replies::ServerFacts;
 
 /// The file of a page, and what the page shows besides the logs.
@@ -19,22 +19,22 @@ pub(crate) fn path_if<'a>(page: Option<NamedPage<'a>>) -> Option<&'a str> {
     }
 }
 
-/// The facts of a page that is written at a time, of logs whose last line has the time `newest`.
-pub(crate) fn facts_of<'a>(
+/// The facts of a page that is written at a time, of logs with this end.
+pub(crate) fn page_facts<'a>(
     page: Option<NamedPage<'a>>,
     written: Option<&'a str>,
-    newest: Option<&'a str>,
+    end: LogsEnd<'a>,
 ) -> PageFacts<'a> {
     match page {
         Some(page) => PageFacts {
             written,
-            newest,
+            end,
             server: page.server,
             folder: page.folder,
         },
         None => PageFacts {
             written,
-            newest,
+            end,
             server: None,
             folder: None,
         },

@@ -8,8 +8,8 @@ ghost use Rattle.cli_logs.specs.Reports.{CountsLogs, HasReported, IsTextBy, IsTi
 ghost use Rattle.markup.specs.WellFormed.{HasPicture};
 ghost use Rattle.report_page.specs.Pages.{HasPage};
 
-use crate::drawing::{Drawn, is_drawn, moment_if, newest_if, page_if, picture_if};
-use crate::named_page::{NamedPage, facts_of, path_if};
+use crate::drawing::{Drawn, end_if, is_drawn, moment_if, page_if, picture_if};
+use crate::named_page::{NamedPage, page_facts, path_if};
 use crate::page_file::require_page;
 use crate::picture_file::{require_drawable, write_if};
 use crate::progress_lines::ProgressLines;
@@ -116,8 +116,8 @@ where
     };
     count_logs(rt, logs, &window, report)?;
     let written = time_of(rt, moment_if(drawn.page))?;
-    let newest = newest_if(rt, drawn.page, logs)?;
-    let facts = facts_of(page, text_of(&written), text_of(&newest));
+    let end = end_if(rt, drawn.page && until.is_none(), logs)?;
+    let facts = page_facts(page, text_of(&written), end.shown());
     match output_of(rt.alloc(), form, kind, drawn, facts, report) {
         Ok(output) => Ok(output),
         Err(_) => Err(ResourceFault::Memory),

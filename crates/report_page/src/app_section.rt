@@ -20,6 +20,10 @@ const HEADS: [&str; 7] = [
     "of installs",
 ];
 
+/// What the lines of a course are.
+const LINES: &str =
+    "Dashed lines are loads. The dotted one is 5 %: above it is red, if three or more failed.";
+
 /// Draws the section of each app, and of each one that only the folder has.
 pub(crate) fn draw_apps(
     alloc: Global,
@@ -52,6 +56,9 @@ fn draw_section(
     draw_offer(page, source, app.appid.as_str());
     draw_versions(page, app);
     draw_app(alloc, page, source.report, app.appid.as_str())?;
+    if !app.versions.is_empty() {
+        remark(page, LINES);
+    }
     page.close();
     page.line();
     Ok(())

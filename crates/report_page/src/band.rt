@@ -18,10 +18,10 @@ pub(crate) fn draw_state(page: &mut Document, source: &PageSource<'_>, findings:
     draw_title(page, *worst);
     page.close();
     page.open(Tag::Paragraph);
-    draw_advice(page, *worst);
+    draw_advice(page, source, *worst);
     page.close();
     close_band(page);
-    draw_others(page, others);
+    draw_others(page, source, others);
 }
 
 fn class_of(finding: Finding<'_>) -> Class {
@@ -43,7 +43,7 @@ fn close_band(page: &mut Document) {
     page.close();
 }
 
-fn draw_others(page: &mut Document, findings: &[Finding<'_>]) {
+fn draw_others(page: &mut Document, source: &PageSource<'_>, findings: &[Finding<'_>]) {
     if findings.is_empty() {
         return;
     }
@@ -54,7 +54,7 @@ fn draw_others(page: &mut Document, findings: &[Finding<'_>]) {
         draw_title(page, *finding);
         page.close();
         page.text(". ");
-        draw_advice(page, *finding);
+        draw_advice(page, source, *finding);
         page.close();
         page.line();
     }

@@ -4,13 +4,24 @@
 use crate::folder::FolderFacts;
 use server_replies::{ServerFacts, ServerReplies};
 
+/// When logs end.
+#[derive(Clone, Copy)]
+pub enum LogsEnd<'a> {
+    /// The latest time of their last lines, as the line has it.
+    At(&'a str),
+    /// None has a line of a server near its end.
+    NoLine,
+    /// It wasn't looked at.
+    Unknown,
+}
+
 /// What a page shows besides the counts of a log. Times are in UTC by RFC 3339.
 #[derive(Clone, Copy)]
 pub struct PageFacts<'a> {
     /// When the page is written.
     pub written: Option<&'a str>,
-    /// The time of the log's last line.
-    pub newest: Option<&'a str>,
+    /// When the logs end.
+    pub end: LogsEnd<'a>,
     /// What a server says, if its port is given.
     pub server: Option<ServerFacts<'a>>,
     /// What a folder has, if one is given.

@@ -1,6 +1,8 @@
 //! What is known of the page, of the log and of the server: a paragraph.
 
 use crate::elements::{put_as, put_name};
+use crate::facts::{LogsEnd, PageFacts};
+use crate::log_age::age_of_log;
 use crate::source::PageSource;
 use markup::{Class, Document, Tag};
 use server_replies::{ServerFacts, ServerReplies, first_after};
@@ -12,16 +14,27 @@ pub(crate) fn draw_facts(page: &mut Document, source: &PageSource<'_>) {
     if let Some(time) = source.facts.written {
         page.text(format_args!("Page written at {time}. "));
     }
-    if let Some(time) = source.facts.newest {
-        page.text("The log ends at ");
-        put_name(page, time);
-        page.text(". ");
-    }
+    draw_end(page, source.facts);
     if let Some(server) = source.facts.server {
         draw_server(page, source, server);
     }
     page.close();
     page.line();
+}
+
+fn draw_end(page: &mut Document, facts: PageFacts<'_>) {
+    match facts.end {
+        LogsEnd::At(time) => {
+            page.text("The log ends at ");
+            put_name(page, time);
+            if let Some(seconds) = age_of_log(facts) {
+                page.text(format_args!(", {seconds} seconds before the page"));
+            }
+            page.text(". ");
+        }
+        LogsEnd::NoLine => page.text("The log's end has no line of a server. "),
+        LogsEnd::Unknown => page.text("The log's end wasn't looked at. "),
+    }
 }
 
 fn draw_server(page: &mut Document, source: &PageSource<'_>, server: ServerFacts<'_>) {
@@ -42,7 +55,7 @@ fn draw_server(page: &mut Document, source: &PageSource<'_>, server: ServerFacts
 fn draw_load(page: &mut Document, state: &[&str]) {
     put_name(page, first_after("generation", state).unwrap_or(""));
     if let Some((time, path)) = first_after("loaded", state).unwrap_or("").split_once(' ') {
-        page.text(", loaded at ");
+        page.text(". Its last load was at ");
         put_name(page, time);
         page.text(" from ");
         put_name(page, path);

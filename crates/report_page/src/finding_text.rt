@@ -1,8 +1,10 @@
 //! What a finding says, and what to do.
 
 use crate::elements::{put, put_name, put_share};
-use crate::findings::{Failing, Finding, LogEnd, UsedUp};
-use crate::offer_section::put_quota;
+use crate::findings::{Failing, Finding, UsedUp};
+use crate::log_age::LogEnd;
+use crate::offer_section::{put_halt, put_quota};
+use crate::source::PageSource;
 use markup::{Document, Tag};
 use printing::Printed;
 
@@ -12,6 +14,7 @@ pub(crate) fn draw_title(page: &mut Document, finding: Finding<'_>) {
         Finding::Silent(port) => page.text(format_args!("The server at {port} doesn't reply")),
         Finding::Fails(failing) => draw_failing(page, failing),
         Finding::Ended(end) => draw_end(page, end),
+        Finding::NoLine => page.text("The log's end has no line of a server"),
         Finding::Errors(n) => {
             page.text(format_args!("Requests with a status of 500 or more: {n}"));
         }
@@ -57,36 +60,36 @@ fn draw_used_up(page: &mut Document, used: UsedUp<'_>) {
 }
 
 /// Adds what follows from it, or what to do.
-pub(crate) fn draw_advice(page: &mut Document, finding: Finding<'_>) {
+pub(crate) fn draw_advice(page: &mut Document, source: &PageSource<'_>, finding: Finding<'_>) {
     match finding {
         Finding::Silent(port) => draw_question(page, port),
-        Finding::Fails(failing) => draw_command(
-            page,
-            "To offer it no longer: ",
-            "rollout stage halt",
-            failing.appid,
-        ),
-        Finding::Ended(_) => page.text("A server writes a line each minute."),
-        Finding::Errors(_) => page.text("The refusals below have their rules. "),
-        Finding::Rowless(_) => {
-            page.text("Only the first 256 have one: another may fail unseen. ")
-        }
+        Finding::Fails(failing) => draw_halt(page, source, failing.appid),
         Finding::Lost(n) => page.text(format_args!(
             "Up to {n} requests are in no number of this page."
         )),
-        Finding::Halted(appid) => {
-            draw_command(page, "To offer it again: ", "rollout stage resume", appid)
-        }
-        Finding::UsedUp(_) => page.text("Later machines get what the rule says next."),
-        Finding::Unread(sentence) => page.text(format_args!("{}.", Printed(sentence))),
-        Finding::Unknown(_) => page.text("The whole report below names them."),
-        Finding::Foreign(_) => page.text("They are in no number of this page."),
+        Finding::Halted(appid) => draw_resume(page, source, appid),
+        Finding::Unread(sentence) => page.text(Printed(sentence)),
+        _ => page.text(consequence(finding)),
+    }
+}
+
+// What follows from a finding, whatever its numbers.
+fn consequence(finding: Finding<'_>) -> &'static str {
+    match finding {
+        Finding::Ended(_) => "A server writes a line each minute.",
+        Finding::NoLine => "A server writes a line each minute, unless the log is new.",
+        Finding::Errors(_) => "The table of requests below has their reasons.",
+        Finding::Rowless(_) => "Only the first 256 have one: another may fail unseen.",
+        Finding::UsedUp(_) => "Later machines get what the rule says next.",
+        Finding::Unknown(_) => "The whole report below names them.",
+        Finding::Foreign(_) => "They are in no number of this page.",
+        _ => "",
     }
 }
 
 // The command that prints what a server serves.
 fn draw_question(page: &mut Document, port: u16) {
-    page.text("To ask it again: ");
+    page.text("To ask it again, as root: ");
     put(
         page,
         Tag::Code,
@@ -94,17 +97,41 @@ fn draw_question(page: &mut Document, port: u16) {
     );
 }
 
-// A command on an app.
-fn draw_command(page: &mut Document, what: &str, command: &str, appid: &str) {
-    page.text(what);
-    if is_plain(appid) {
-        put(page, Tag::Code, format_args!("{command} {appid}"));
-    } else {
-        put(page, Tag::Code, format_args!("{command} APPID"));
+// How an app is halted, unless the server does that already.
+fn draw_halt(page: &mut Document, source: &PageSource<'_>, appid: &str) {
+    if source.is_halted(appid) {
+        put_halt(page, source);
+        return;
     }
+    page.text("To offer it no longer: ");
+    put_command(page, source, "rollout stage halt", appid);
 }
 
-// Whether a shell takes the text as one word: letters, digits, dots, hyphens and underscores.
+// How a halt ends: by `stage`, or at the server only, if nothing but `halt` was called there.
+fn draw_resume(page: &mut Document, source: &PageSource<'_>, appid: &str) {
+    page.text("To offer it again: ");
+    put_command(page, source, "rollout stage resume", appid);
+    page.text(", or ");
+    put_command(page, source, "rollout resume", appid);
+    page.text(" after ");
+    put(page, Tag::Code, "rollout halt");
+    page.text(" alone.");
+}
+
+// A command on an app, at the server's port if it is given.
+fn put_command(page: &mut Document, source: &PageSource<'_>, command: &str, appid: &str) {
+    let name = if is_plain(appid) { appid } else { "APPID" };
+    page.open(Tag::Code);
+    page.text(format_args!("{command} {name}"));
+    if let Some(server) = source.facts.server {
+        let port = server.port;
+        page.text(format_args!(" --operator {port}"));
+    }
+    page.close();
+}
+
+// Whether a shell takes the text as one word: letters, digits, dots, hyphens and underscores, and
+// no hyphen first.
 fn is_plain(text: &str) -> bool {
     for byte in text.as_bytes() {
         let plain = byte.is_ascii_alphanumeric() || *byte == b'.' || *byte == b'-' || *byte == b'_';
@@ -112,5 +139,5 @@ fn is_plain(text: &str) -> bool {
             return false;
         }
     }
-    !text.starts_with('-')
+    !text.is_empty() && !text.starts_with('-')
 }

@@ -1,17 +1,12 @@
 //! What a report finds: what is wrong, the worst first.
 
-use crate::facts::PageFacts;
 use crate::folder::{FolderFacts, OfferedQuota};
+use crate::log_age::{LogEnd, end_of, is_without_end};
 use crate::source::PageSource;
-use moments::second_of_time;
 use report::{AppQuestion, ChartQuestion, Question, Report};
 use server_replies::{ServerFacts, text_after};
 use std::alloc::{AllocError, Global};
 use timeline::{Outcomes, VersionCourse, asks_of_app, versions_of_app};
-
-/// The longest time for which a log of a living server has no line: ten minutes, of which it writes
-/// a line in each.
-const MOST_SECONDS: i128 = 600;
 
 /// An app with its versions, and the update checks of its course.
 #[derive(Drop)]
@@ -29,14 +24,6 @@ pub(crate) struct Failing<'a> {
     pub newest: Outcomes,
 }
 
-/// The end of a log that has ended.
-#[derive(Clone, Copy)]
-pub(crate) struct LogEnd<'a> {
-    pub time: &'a str,
-    /// How long before the page.
-    pub minutes: u64,
-}
-
 /// A quota that has granted all it may.
 #[derive(Clone, Copy)]
 pub(crate) struct UsedUp<'a> {
@@ -51,6 +38,8 @@ pub(crate) enum Finding<'a> {
     Silent(u16),
     Fails(Failing<'a>),
     Ended(LogEnd<'a>),
+    /// Logs of which lines were counted have no line of a server near their end.
+    NoLine,
     /// Requests that got a status from 500 on.
     Errors(u64),
     /// Counts of versions that have no row, since others occurred first.
@@ -72,7 +61,7 @@ impl<'a> Finding<'a> {
     /// Whether an operator has to act.
     pub(crate) fn is_urgent(self) -> bool {
         match self {
-            Finding::Silent(_) | Finding::Fails(_) | Finding::Ended(_) => true,
+            Finding::Silent(_) | Finding::Fails(_) | Finding::Ended(_) | Finding::NoLine => true,
             Finding::Errors(_) | Finding::Rowless(_) => true,
             _ => false,
         }
@@ -130,6 +119,9 @@ fn note_urgent<'a>(
     if let Some(end) = end_of(source.facts) {
         findings.push(Finding::Ended(end))?;
     }
+    if is_without_end(source) {
+        findings.push(Finding::NoLine)?;
+    }
     note(findings, Finding::Errors(source.faults.errors))?;
     note(findings, Finding::Rowless(rowless_in(source.report)))
 }
@@ -169,20 +161,6 @@ fn note_folder<'a>(
         findings.push(Finding::Unread(sentence.as_str()))?;
     }
     Ok(())
-}
-
-// The end of a log whose last line is over ten minutes older than the page. A server writes a line
-// each minute.
-fn end_of<'a>(facts: PageFacts<'a>) -> Option<LogEnd<'a>> {
-    let time = facts.newest?;
-    let end = second_of_time(time)?;
-    let written = second_of_time(facts.written?)?;
-    let seconds = (written as i128 - end as i128).max(0);
-    if seconds <= MOST_SECONDS {
-        return None;
-    }
-    let minutes = u64::try_from(seconds / 60).ok()?;
-    Some(LogEnd { time, minutes })
 }
 
 fn failing_of<'a>(app: &'a AppCourse, version: &'a VersionCourse) -> Failing<'a> {

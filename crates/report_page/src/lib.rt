@@ -14,13 +14,14 @@ mod finding_text;
 mod findings;
 mod folder;
 mod head;
+mod log_age;
 mod offer_section;
 mod page;
 mod request_section;
 mod source;
 mod step_section;
 
-pub use facts::PageFacts;
+pub use facts::{LogsEnd, PageFacts};
 pub use folder::{FolderFacts, OfferedApp, OfferedQuota, TakenStep};
 pub use head::PAGE_BEGINNING;
 pub use page::page_text;

@@ -1,6 +1,6 @@
 //! What a folder's rule offers an app: its statements in words, and its quotas.
 
-use crate::elements::{close_table, open_table, put, put_as, put_name, remark};
+use crate::elements::{close_table, open_table, put, put_name, remark};
 use crate::folder::{OfferedApp, OfferedQuota};
 use crate::source::PageSource;
 use markup::{Attribute, Class, Document, Tag};
@@ -9,10 +9,17 @@ use printing::Printed;
 /// Draws what an app is offered, if the folder has the app, and that the server halts it.
 pub(crate) fn draw_offer(page: &mut Document, source: &PageSource<'_>, appid: &str) {
     if source.is_halted(appid) {
-        remark(page, "The server halts it: no release is offered.");
+        page.open_as(Tag::Paragraph, Class::Muted);
+        put_halt(page, source);
+        page.close();
+        page.line();
     }
     if let Some(offered) = source.offer_to(appid) {
-        put(page, Tag::Subheading, "Offered, by the folder");
+        put(
+            page,
+            Tag::Subheading,
+            "Offered by the folder, once it is loaded",
+        );
         page.line();
         draw_statements(page, offered);
         if !offered.quotas.is_empty() {
@@ -21,9 +28,17 @@ pub(crate) fn draw_offer(page: &mut Document, source: &PageSource<'_>, appid: &s
     }
 }
 
+/// Adds that the server halts an app.
+pub(crate) fn put_halt(page: &mut Document, source: &PageSource<'_>) {
+    if let Some(server) = source.facts.server {
+        let port = server.port;
+        page.text(format_args!("The server at {port} halts it, and offers it no release."));
+    }
+}
+
 fn draw_statements(page: &mut Document, offered: &OfferedApp) {
     if offered.statements.is_empty() {
-        remark(page, "Its rule couldn't be read.");
+        remark(page, "Its file couldn't be read, or is no rule.");
         return;
     }
     page.open(Tag::List);
@@ -36,7 +51,7 @@ fn draw_statements(page: &mut Document, offered: &OfferedApp) {
 }
 
 fn draw_quotas(page: &mut Document, source: &PageSource<'_>, quotas: &[OfferedQuota]) {
-    open_table(page, &["Quota", "Granted", "Share"], 2);
+    open_table(page, &["Quota", "Granted by the server", "Share"], 2);
     for quota in quotas {
         page.open(Tag::TableRow);
         draw_quota(page, quota, source.granted(quota));
@@ -53,7 +68,9 @@ fn draw_quota(page: &mut Document, quota: &OfferedQuota, granted: Option<u64>) {
     put_quota(page, quota);
     page.close();
     match granted {
-        Some(n) => {
+        Some(takes) => {
+            // A counter also counts takes beyond its quota.
+            let n = takes.min(limit);
             put(page, Tag::TableCell, format_args!("{n} of {limit}"));
             draw_bar(page, n, limit);
         }
@@ -76,7 +93,7 @@ fn draw_bar(page: &mut Document, n: u64, limit: u64) {
     let part = if limit == 0 {
         1000
     } else {
-        n.min(limit) as u128 * 1000 / limit as u128
+        n as u128 * 1000 / limit as u128
     };
     page.open_as(Tag::TableCell, Class::Number);
     page.open_as(Tag::Svg, Class::Axis);

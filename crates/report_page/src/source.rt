@@ -67,7 +67,7 @@ impl<'a> PageSource<'a> {
         false
     }
 
-    /// How often a quota was granted so far, if the server replied.
+    /// How often a quota was granted so far, if the server replied; 0 of an array that it lacks.
     pub(crate) fn granted(&self, quota: &OfferedQuota) -> Option<u64> {
         if !self.is_up() {
             return None;

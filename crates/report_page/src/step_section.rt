@@ -19,8 +19,13 @@ pub(crate) fn draw_steps(page: &mut Document, folder: Option<&FolderFacts>) {
     page.open(Tag::Section);
     put(page, Tag::Heading, "Steps");
     page.line();
-    if folder.steps.is_empty() {
+    if folder.steps.is_empty() && folder.unread.is_empty() {
         remark(page, "The folder has no step.");
+    } else if folder.steps.is_empty() {
+        remark(
+            page,
+            "No step is shown: what couldn't be read is named above.",
+        );
     } else {
         draw_table(page, folder.steps.as_slice());
     }
