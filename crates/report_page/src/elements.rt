@@ -69,6 +69,13 @@ pub(crate) fn share_cell(page: &mut Document, class: Class, n: u64, whole: u64) 
     page.close();
 }
 
+/// Adds the longest wait, such as `Clients waited up to 2.31 seconds`, cut after two digits.
+pub(crate) fn put_wait(page: &mut Document, wait: u64) {
+    let seconds = wait / 1000000;
+    let hundredths = wait / 10000 % 100;
+    page.text(format_args!("Clients waited up to {seconds}.{hundredths:02} seconds"));
+}
+
 /// Adds a share to the innermost element, cut after two digits; nothing if the whole is 0.
 pub(crate) fn put_share(page: &mut Document, n: u64, whole: u64) {
     if whole == 0 {

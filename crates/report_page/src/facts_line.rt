@@ -5,7 +5,7 @@ use crate::facts::{LogsEnd, PageFacts};
 use crate::log_age::age_of_log;
 use crate::source::PageSource;
 use markup::{Class, Document, Tag};
-use server_replies::{ServerFacts, ServerReplies, first_after};
+use server_replies::{ServerFacts, ServerReplies, first_after, path_of_load, time_of_load};
 
 /// Draws the time of the page, that of the log's last line, and what a server serves. The style of
 /// the paragraph also says when the page has been open for a minute.
@@ -54,11 +54,11 @@ fn draw_server(page: &mut Document, source: &PageSource<'_>, server: ServerFacts
 // The generation, the time and the path of its load, and the digest.
 fn draw_load(page: &mut Document, state: &[&str]) {
     put_name(page, first_after("generation", state).unwrap_or(""));
-    if let Some((time, path)) = first_after("loaded", state).unwrap_or("").split_once(' ') {
+    if let Some(loaded) = first_after("loaded", state) {
         page.text(". Its last load was at ");
-        put_name(page, time);
+        put_name(page, time_of_load(loaded));
         page.text(" from ");
-        put_name(page, path);
+        put_name(page, path_of_load(loaded));
     }
     page.text(", with digest ");
     put_as(

@@ -1,6 +1,6 @@
 //! What a finding says, and what to do.
 
-use crate::elements::{put, put_name, put_share};
+use crate::elements::{put, put_name, put_share, put_wait};
 use crate::findings::{Failing, Finding, UsedUp};
 use crate::log_age::LogEnd;
 use crate::offer_section::{put_halt, put_quota};
@@ -20,6 +20,7 @@ pub(crate) fn draw_title(page: &mut Document, finding: Finding<'_>) {
         }
         Finding::Rowless(n) => page.text(format_args!("Counts of versions without a row: {n}")),
         Finding::Lost(n) => page.text(format_args!("Lines of the log that are lost: {n}")),
+        Finding::Waited(wait) => put_wait(page, wait),
         Finding::Halted(appid) => {
             put_name(page, appid);
             page.text(" is halted");
@@ -80,6 +81,7 @@ fn consequence(finding: Finding<'_>) -> &'static str {
         Finding::NoLine => "A server writes a line each minute, unless the log is new.",
         Finding::Errors(_) => "The table of requests below has their reasons.",
         Finding::Rowless(_) => "Only the first 256 have one: another may fail unseen.",
+        Finding::Waited(_) => "There are too few workers (--workers), or clients send slowly.",
         Finding::UsedUp(_) => "Later machines get what the rule says next.",
         Finding::Unknown(_) => "The whole report below names them.",
         Finding::Foreign(_) => "They are in no number of this page.",

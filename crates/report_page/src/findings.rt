@@ -8,6 +8,9 @@ use server_replies::{ServerFacts, text_after};
 use std::alloc::{AllocError, Global};
 use timeline::{Outcomes, VersionCourse, asks_of_app, versions_of_app};
 
+/// A longer wait is a finding: a second, in microseconds.
+const MOST_WAIT: u64 = 1000000;
+
 /// An app with its versions, and the update checks of its course.
 #[derive(Drop)]
 pub(crate) struct AppCourse {
@@ -46,6 +49,8 @@ pub(crate) enum Finding<'a> {
     Rowless(u64),
     /// Lines that the log lost.
     Lost(u64),
+    /// The longest wait of a client, in microseconds, if it is over a second.
+    Waited(u64),
     /// An app that the server halts.
     Halted(&'a str),
     UsedUp(UsedUp<'a>),
@@ -131,6 +136,7 @@ fn note_others<'a>(
     source: &PageSource<'a>,
 ) -> Result<(), AllocError> {
     note(findings, Finding::Lost(source.faults.lost))?;
+    note(findings, Finding::Waited(source.faults.longest_wait))?;
     for line in source.state {
         if let Some(appid) = text_after("halted", *line) {
             findings.push(Finding::Halted(appid))?;
@@ -171,11 +177,12 @@ fn failing_of<'a>(app: &'a AppCourse, version: &'a VersionCourse) -> Failing<'a>
     }
 }
 
-// Adds a finding, unless its number is 0.
+// Adds a finding, unless its number is 0, or a wait is at most a second.
 fn note<'a>(findings: &mut Vec<Finding<'a>>, finding: Finding<'a>) -> Result<(), AllocError> {
     let empty = match finding {
         Finding::Errors(n) | Finding::Rowless(n) | Finding::Lost(n) => n == 0,
         Finding::Unknown(n) | Finding::Foreign(n) => n == 0,
+        Finding::Waited(wait) => wait <= MOST_WAIT,
         _ => false,
     };
     if !empty {

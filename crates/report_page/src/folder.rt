@@ -3,8 +3,10 @@
 /// What a folder of `stage` has: what its apps are offered, and the steps so far.
 pub struct FolderFacts {
     pub apps: Vec<OfferedApp>,
-    /// The newest step first.
+    /// The last steps, the newest first.
     pub steps: Vec<TakenStep>,
+    /// How many steps were taken before these.
+    pub earlier_steps: u64,
     /// What of the folder couldn't be read: sentences without a full stop.
     pub unread: Vec<String>,
 }
@@ -14,6 +16,7 @@ impl Drop for FolderFacts {
         let Self {
             apps: _apps,
             steps: _steps,
+            earlier_steps: _earlier_steps,
             unread: _unread,
         } = self;
     }

@@ -1,6 +1,6 @@
 //! The sections of loads and of requests, and the whole report.
 
-use crate::elements::{close_table, number_cell, open_table, put, remark};
+use crate::elements::{close_table, number_cell, open_table, put, put_wait, remark};
 use markup::{Class, Document, Tag};
 use report::{LineQuestion, Question, Report, report_text};
 use std::alloc::{AllocError, Global};
@@ -42,6 +42,7 @@ pub(crate) fn draw_requests(page: &mut Document, report: &Report) {
         }
         _ => remark(page, "No request was refused."),
     }
+    draw_responses(page, report);
     open_table(page, &["Lines of the log", "Number"], 1);
     draw_number(page, "counted", report.lines);
     draw_number(page, "not the server's", report.foreign);
@@ -54,6 +55,28 @@ pub(crate) fn draw_requests(page: &mut Document, report: &Report) {
     close_table(page);
     page.close();
     page.line();
+}
+
+// The replies by status, and how long a client waited at most, by the log's lines of totals.
+fn draw_responses(page: &mut Document, report: &Report) {
+    match report.tally(Question::Responses) {
+        Some(responses) if !responses.rows().is_empty() => {
+            open_table(page, &["Status of the reply", "Number"], 1);
+            draw_rows(page, responses.rows());
+            close_table(page);
+        }
+        _ => remark(
+            page,
+            "The log has no totals: a server writes them each minute.",
+        ),
+    }
+    if report.longest_wait > 0 {
+        page.open_as(Tag::Paragraph, Class::Muted);
+        put_wait(page, report.longest_wait);
+        page.text(" for a worker.");
+        page.close();
+        page.line();
+    }
 }
 
 fn draw_number(page: &mut Document, what: &str, n: u64) {

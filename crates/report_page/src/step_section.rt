@@ -5,9 +5,6 @@ use crate::folder::{FolderFacts, TakenStep};
 use markup::{Document, Tag};
 use printing::Printed;
 
-/// How many steps are shown.
-const MOST_STEPS: usize = 20;
-
 /// The heads of the columns of steps.
 const HEADS: [&str; 6] = ["Step", "Time, in UTC", "What", "By", "Why", "Now"];
 
@@ -29,24 +26,20 @@ pub(crate) fn draw_steps(page: &mut Document, folder: Option<&FolderFacts>) {
     } else {
         draw_table(page, folder.steps.as_slice());
     }
+    if folder.earlier_steps > 0 {
+        let earlier = folder.earlier_steps;
+        remark(page, format_args!("{earlier} earlier steps aren't shown."));
+    }
     page.close();
     page.line();
 }
 
 fn draw_table(page: &mut Document, steps: &[TakenStep]) {
     open_table(page, &HEADS, 6);
-    let mut left = MOST_STEPS;
     for step in steps {
-        if left > 0 {
-            draw_step(page, step);
-            left -= 1;
-        }
+        draw_step(page, step);
     }
     close_table(page);
-    let older = steps.len().saturating_sub(MOST_STEPS);
-    if older > 0 {
-        remark(page, format_args!("{older} earlier steps aren't shown."));
-    }
 }
 
 fn draw_step(page: &mut Document, step: &TakenStep) {
