@@ -55,7 +55,7 @@ fn draw_section(
     draw_heading(page, app);
     draw_offer(page, source, app.appid.as_str());
     draw_versions(page, app);
-    draw_app(alloc, page, source.report, app.appid.as_str())?;
+    draw_app(alloc, page, source.report, source.times, app.appid.as_str())?;
     if !app.versions.is_empty() {
         remark(page, LINES);
     }

@@ -6,7 +6,7 @@ use crate::source::PageSource;
 use report::{AppQuestion, ChartQuestion, Question, Report};
 use server_replies::{ServerFacts, text_after};
 use std::alloc::{AllocError, Global};
-use timeline::{Outcomes, VersionCourse, asks_of_app, versions_of_app};
+use timeline::{Outcomes, Times, VersionCourse, asks_of_app, versions_of_app};
 
 /// A longer wait is a finding: a second, in microseconds.
 const MOST_WAIT: u64 = 1000000;
@@ -74,15 +74,19 @@ impl<'a> Finding<'a> {
 }
 
 /// The apps of a report, each with its versions.
-pub(crate) fn apps_of(alloc: Global, report: &Report) -> Result<Vec<AppCourse>, AllocError> {
+pub(crate) fn apps_of(
+    alloc: Global,
+    report: &Report,
+    times: Times,
+) -> Result<Vec<AppCourse>, AllocError> {
     let mut apps = Vec::new(alloc);
     if let Some(update_checks) = report.tally(Question::App(AppQuestion::UpdateCheck)) {
         for (appid, _count) in update_checks.rows().iter() {
             let appid = appid.as_str();
-            let versions = versions_of_app(alloc, report, appid)?;
+            let versions = versions_of_app(alloc, report, times, appid)?;
             apps.push(AppCourse {
                 appid: String::from_str(alloc, appid)?,
-                asks: asks_of_app(report, appid)?,
+                asks: asks_of_app(alloc, report, times, appid)?,
                 versions,
             })?;
         }

@@ -19,6 +19,7 @@ use report::Report;
 use report_state::Faults;
 use server_replies::lines_of;
 use std::alloc::{AllocError, Global};
+use timeline::Times;
 
 /// The page of a report, as the text of a file in HTML, with these faults and facts. Also returns
 /// `AllocError` if a number overflows 64 bits.
@@ -60,8 +61,9 @@ fn draw_content(
     faults: Faults,
     facts: PageFacts<'_>,
 ) -> Result<(), AllocError> {
-    let apps = apps_of(alloc, report)?;
-    let drawn = draw_from(alloc, page, report, faults, facts, apps.as_slice());
+    let times = Times::of_report(report);
+    let apps = apps_of(alloc, report, times)?;
+    let drawn = draw_from(alloc, page, report, times, faults, facts, apps.as_slice());
     drop(apps);
     drawn
 }
@@ -70,6 +72,7 @@ fn draw_from(
     alloc: Global,
     page: &mut Document,
     report: &Report,
+    times: Times,
     faults: Faults,
     facts: PageFacts<'_>,
     apps: &[AppCourse],
@@ -78,6 +81,7 @@ fn draw_from(
     let cells = read_assignments(alloc, facts.cells())?;
     let source = PageSource {
         report,
+        times,
         faults,
         facts,
         apps,

@@ -7,12 +7,14 @@ use cell_assignments::CellAssignment;
 use report::Report;
 use report_state::Faults;
 use server_replies::{ServerFacts, text_after};
+use timeline::Times;
 
 /// What a page is drawn from: a report with its apps and faults, the facts, and what of them had to
 /// be read.
 #[derive(Drop)]
 pub(crate) struct PageSource<'a> {
     pub report: &'a Report,
+    pub times: Times,
     pub faults: Faults,
     pub facts: PageFacts<'a>,
     pub apps: &'a [AppCourse],
