@@ -11,11 +11,13 @@ import xml.dom.minidom
 
 from asking import ROOT
 from browsing import PASSWORD, Dom, fetched, served
-from page_logs import NAMES, rows_of, shown_name
+from page_logs import NAMES, WAITED, rows_of, shown_name, statuses_of
 
 COLUMNS = 7
 # The versions that occur first have a row.
 MOST_VERSIONS = 256
+# The pages of the bad night, on which a release fails.
+FAILING = {"bad-night", "continued", "whole"}
 WIDTHS = (360, 400, 720, 1040, 1280, 2000)
 
 
@@ -95,6 +97,10 @@ def misread(dom, name, lines, report):
     cut = len(wanted) > MOST_VERSIONS and len(rows) == MOST_VERSIONS
     if not all(it in wanted for it in rows) if cut else rows != wanted:
         return f"its versions are {[it for it in rows if it not in wanted][:2]} of {len(rows)}"
+    if missing := [it for it in statuses_of(lines) if it not in dom.rows]:
+        return f"replies aren't there: {missing}"
+    if any(it.startswith(WAITED) for it in dom.items) != (name in FAILING):
+        return f"its findings are {dom.items}"
 
 
 # ---- in a browser

@@ -4,7 +4,7 @@ counted by itself.
 """
 import json
 import random
-from collections import Counter
+from collections import Counter, defaultdict
 from datetime import datetime, timedelta, timezone
 
 NAMES = [
@@ -50,6 +50,19 @@ def course(app, versions, minutes, offered_from, failing, machines=2, share=0.25
 
 def load(minute, path, generation):
     return {"time": minute, "kind": "load", "path": path, "generation": generation}
+
+
+def with_totals(lines, longest_wait):
+    """These lines, and a server's totals of each minute that has one. The longest wait, in
+    microseconds, is that of the first minute."""
+    minutes = defaultdict(Counter)
+    for line in lines:
+        yield line
+        minutes[line["time"]][f"status_{line.get('status')}"] += 1
+    for minute, statuses in minutes.items():
+        statuses.pop("status_None", None)
+        yield {"time": minute + 0.9, "kind": "totals", **statuses, "dropped": 0,
+               "longest_wait": longest_wait if minute == min(minutes) else 200, "busy": 1}
 
 
 def quiet_day():
@@ -113,13 +126,19 @@ def stamped(lines):
         yield {**line, "time": moment.strftime("%Y-%m-%dT%H:%M:%S.000Z")}
 
 
+# Longer than the second from which on a wait is a finding, and that finding.
+LONGEST_WAIT = 2_314_567
+WAITED = "Clients waited up to 2.31 seconds"
+
+
 def all_logs():
     """The bytes of each log, and its lines."""
     random.seed(5)
     makers = {"empty": list, "quiet-day": quiet_day, "good-day": good_day, "bad-night": bad_night,
               "hostile": hostile, "many-apps": many_apps, "limits": limits}
     for name, maker in makers.items():
-        lines = [*stamped([*maker()])]
+        wait = LONGEST_WAIT if name == "bad-night" else 1_000_000
+        lines = [*stamped([*with_totals(maker(), wait)])]
         text = b"".join(json.dumps(line).encode() + b"\n" for line in lines)
         yield name, (NO_UTF8 if name == "hostile" else b"") + text, lines
 
@@ -170,3 +189,13 @@ def rows_of(lines):
             rows.append([version, str(asked), share(asked, every[appid]), str(offers), str(ended),
                          str(failed), share(failed, ended)])
     return rows
+
+
+def statuses_of(lines):
+    """The rows of the statuses of replies, by the totals."""
+    counts = Counter()
+    for line in lines:
+        for name, count in line.items():
+            if name.startswith("status_"):
+                counts[name.removeprefix("status_")] += count
+    return [[status, str(count)] for status, count in counts.items()]
