@@ -33,17 +33,15 @@ class Step:
     by: str
     because: str
     is_undone: bool = False
-    is_partial: bool = False
     # Whether its record can be read.
     is_damaged: bool = False
 
-    def line(self):
+    def line(self, has_stopped):
         """How `status` and `history` print it, but for its time."""
-        word = "undone" if self.is_undone else "stopped" if self.is_partial else "done"
+        word = "undone" if self.is_undone else "stopped" if has_stopped else "done"
         because = f" ({self.because})" if self.because else ""
         by = f" by {self.by}" if self.by else ""
         return f"{word} step {self.number} of{by}: {self.action}{because}"
-
 
     def spelt(self):
         """What its record has, besides its time: the manifest is the last of its files."""

@@ -10,13 +10,13 @@ from nightly.servers import generations
 
 
 def expect(night, call, said, is_loose=False):
-    """Yields what a call said that isn't so. If `is_loose`, another call was at work, and the lines
-    about servers and the status aren't compared."""
+    """Yields what a call said that isn't so. If `is_loose`, another call was at work: the servers
+    were halted before, and the lines about servers and the status aren't compared."""
     status, output, errors = said
     plan = plan_of(night, call)
     has_stopped = UNCHANGED in errors or KEPT in errors
     yield from untrue_rows(night, plan, call, output)
-    lines, missing = halt_servers(night, call, errors)
+    lines, missing = ([], []) if is_loose else halt_servers(night, call, errors)
     yield from missing
     if plan.stops and not has_stopped:
         yield f"it has to stop by {sorted(plan.stops)}"
@@ -69,7 +69,8 @@ def untrue_files(plan, call, output):
 
 def take(night, plan):
     """The files and steps after a call that went on."""
-    night.left += [plan.now, plan.then]
+    if plan.step or plan.undone:
+        night.left += [plan.now, plan.then]
     for name, text in plan.files.items():
         if text is None:
             night.files.pop(name, None)
@@ -107,15 +108,17 @@ def is_loaded(night, call, plan, known, server, output):
     something else than is in place; of one where that is the halted app alone no page speaks."""
     if not server.is_up or plan.then is None:
         return False
-    if is_other(night, known, server):
+    is_strange = is_other(night, known, server)
+    if is_strange:
         return call.other_server
-    if set(server.load.appids()) - known and any(it.is_damaged for it in night.steps):
+    is_cut = set(server.load.appids()) - known and any(it.is_damaged for it in night.steps)
+    if is_strange is None or is_cut:
         # Perhaps only the cut record knows what it serves: then it is another one.
         said = call.word == "halt" and call.appid in server.halts
         return call.other_server or len(generations(output, server.operator)) > said
-    loads = [it for it in (plan.now, plan.then) if it]
-    if call.word != "halt" or call.anyway or server.load in loads:
+    if call.word != "halt" or call.anyway or server.load == plan.now:
         return True
+    loads = [it for it in (plan.now, plan.then) if it]
     if any(it.is_but_for(call.appid, server.load) for it in loads):
         return len(generations(output, server.operator)) == 2
     return False
@@ -134,9 +137,12 @@ def load_servers(night, call, plan, known, output):
         lines.append(f"server at {it.operator}: generation {it.generation}{more}")
         maybe = [it for it in plan.maybe_lifted if f", {it} is offered again\n" in output]
         for app in (*plan.lifted, *maybe):
+            more = f", {app} is offered again"
             if app in it.halts:
                 it.halts.remove(app)
                 it.generation += 1
-            more = f", {app} is offered again"
+            elif (it.generation, more) not in generations(output, it.operator):
+                # It is halted there by its file alone: no page says whether the line is printed.
+                continue
             lines.append(f"server at {it.operator}: generation {it.generation}{more}")
     return lines, is_bad

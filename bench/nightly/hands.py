@@ -25,9 +25,10 @@ def looks(night):
             night.wrong(f"status: {'no' if is_served else 'untrue'} {line}")
     if any(it.is_damaged for it in night.steps):
         return
-    has_notes = "isn't replaced yet" in errors or "was edited since" in errors
-    if status != (0 if is_same and not has_notes else 1):
-        night.wrong(f"status: {status}, though all servers serve what is in place: {is_same}")
+    is_as_left = night.is_as_left()
+    if status != (0 if is_same and is_as_left else 1):
+        night.wrong(f"status: {status}, though served is what is in place: {is_same}, "
+                    f"and the last step's files are as it left them: {is_as_left}")
     for app in load.apps if load else ():
         is_halted = load.file_of(app.appid) == NOTHING[app.kind]
         is_step = any(it.action == f"halt {app.appid}" and not it.is_undone for it in night.steps)
@@ -36,11 +37,11 @@ def looks(night):
             night.wrong(f"status of {app.appid}: {lines}, though halted: {is_halted}")
     words = ["stage", "history", "--folder", str(night.folder), "--no-load"]
     _, history, errors = run(night, [str(night.programs / "rollout-tools"), *words])
-    if NUMBERED.sub(r"\1\2: \3", history).splitlines() != [it.line() for it in night.steps]:
+    if NUMBERED.sub(r"\1\2: \3", history).splitlines() != [night.line_of(it) for it in night.steps]:
         night.wrong(f"history: {history}{errors}")
     for it in night.steps[-3:]:
-        if it.line() not in NUMBERED.sub(r"\1\2: \3", output):
-            night.wrong(f"status lacks {it.line()}")
+        if night.line_of(it) not in NUMBERED.sub(r"\1\2: \3", output):
+            night.wrong(f"status lacks {night.line_of(it)}")
 
 
 def edits(night):

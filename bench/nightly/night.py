@@ -38,7 +38,7 @@ class Night:
         how = {"check": False, "stderr": subprocess.DEVNULL}
         self.is_mounted = os.geteuid() == 0 and subprocess.run(mount, **how).returncode == 0
         self.files, self.modes, self.steps, self.servers = {}, {}, [], []
-        # What was in place before the first step, and after each.
+        # What was in place before and after each step, also one that is undone.
         self.left = []
         self.complaints, self.told = [], []
 
@@ -79,6 +79,26 @@ class Night:
         if apps is None:
             return None
         return Load(self.files["current.toml"], apps, tuple(self.files.get(it.file) for it in apps))
+
+    # ---- the steps
+
+    def has_stopped(self, step):
+        """Whether a file of a step is as the step found it: so the next step found it that has it,
+        or else it is so now."""
+        later = self.steps[self.steps.index(step) + 1:]
+        for name, before in step.before.items():
+            found = (it.before[name] for it in later if name in it.before)
+            if next(found, self.files.get(name)) == before:
+                return True
+        return False
+
+    def line_of(self, step):
+        return step.line(self.has_stopped(step))
+
+    def is_as_left(self):
+        """Whether each file of the last step that isn't undone is as that step left it."""
+        left = [it for it in self.steps if not it.is_undone]
+        return not left or all(self.files.get(n) == it for n, it in left[-1].after.items())
 
     # ---- calls
 

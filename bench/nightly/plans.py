@@ -71,9 +71,25 @@ def known_apps(night, plan):
     return {it.appid for text in texts for it in KNOWN.get(text, ())}
 
 
+def left_by_each(night):
+    """What was in place before the first step and after each, by the records of those that aren't
+    undone: a file is as the next step found it that has it, or else as the last one left it."""
+    done = [it for it in night.steps if not it.is_undone and not it.is_damaged]
+    for place in range(len(done) + 1):
+        files = dict(night.files)
+        for step in done[:place]:
+            files |= step.after
+        for step in reversed(done[place:]):
+            files |= step.before
+        yield load_of({name: text for name, text in files.items() if text is not None})
+
+
 def is_other(night, known, server):
-    """Whether a server has an app that isn't known in this folder, and serves what no step left."""
-    return bool(set(server.load.appids()) - known) and server.load not in night.left
+    """Whether a server has an app that isn't known in this folder, and serves what no step left;
+    None if a step left it that is undone, or before a file was edited that no step has."""
+    if not set(server.load.appids()) - known or server.load in left_by_each(night):
+        return False
+    return None if server.load in night.left else True
 
 
 def drifts(night, call, plan):
@@ -89,8 +105,8 @@ def drifts(night, call, plan):
         if plan.now and server.load == plan.now:
             continue
         is_strange = is_other(night, known_apps(night, plan), server)
-        if is_strange and not call.other_server:
-            plan.stops.add("other")
+        if is_strange is not False and not call.other_server:
+            (plan.stops if is_strange else plan.perhaps).add("other")
         if call.anyway:
             continue
         if is_strange and call.other_server:
@@ -185,7 +201,8 @@ def plan_put(night, call, plan):
         return
     plan.files = {it: call.source[it] for it in [*dict.fromkeys(
         app.file for app in load_of(call.source).apps), "current.toml"]}
-    for app in plan.now.apps if plan.now else ():
+    present = night.load_without_faults()
+    for app in present.apps if present else ():
         force = is_in_force(night, app.appid, app.file)
         after = app_in(load_of(call.source), app.appid)
         if after and plan.files[after.file] == NOTHING[after.kind]:

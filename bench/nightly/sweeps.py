@@ -136,7 +136,9 @@ def back_again(night, call, before):
     """A step that was stopped can be undone, and its files are as before. A call of `back` that was
     stopped can be made again."""
     left = [it for it in night.steps if not it.is_undone]
-    if night.complaints or not left or call.word != "back" and not night.steps[-1].is_partial:
+    if night.complaints or not left:
+        return
+    if call.word != "back" and not night.has_stopped(night.steps[-1]):
         return
     step, again = left[-1], call
     if call.word != "back":

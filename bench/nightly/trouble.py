@@ -1,6 +1,7 @@
 """Calls of `stage` with something in their way: another call, a crash, a disk that refuses."""
 import contextlib
 import fcntl
+import itertools
 import os
 import shutil
 import subprocess
@@ -52,7 +53,8 @@ def settle(night, call, said, is_killed):
         night.wrong(f"a dry run has changed {changed}")
     settle_steps(night, plan, changed, expected, errors)
     night.files = found
-    night.left += [plan.now, plan.then, night.load()]
+    if plan.step in night.steps or plan.undone:
+        night.left += [plan.now, plan.then, night.load()]
     for it in night.servers:
         if it.is_up:
             is_whole = len(changed) == len(expected)
@@ -63,7 +65,6 @@ def settle_steps(night, plan, changed, expected, errors):
     """The records after a call with something in its way."""
     records = night.recorded()
     if plan.step:
-        plan.step.is_partial = len(changed) != len(expected)
         if plan.step.spelt() in records:
             night.steps.append(plan.step)
             if UNCHANGED in errors or f"{KEPT}\n" in errors:
@@ -157,8 +158,20 @@ def acts_in_a_read_only_folder(night):
     return settle(night, call, said, False)
 
 
+def orders(calls):
+    """In which orders two calls may take place. A halt has two parts, of which the first needs no
+    lock: the servers, and then the files."""
+    parts = [(k, part) for k in (0, 1) for part in ("servers", "files")]
+    parts = [it for it in parts if it[1] == "files" or calls[it[0]].word == "halt"]
+    for order in itertools.permutations(parts):
+        if all(order.index((k, "servers")) < order.index((k, "files"))
+               for k, part in order if part == "servers"):
+            yield order
+
+
 def acts_beside_another(night):
-    """Two calls at the same time: as if one came after the other, or one stops at the other."""
+    """Two calls at the same time: as if one came after the other, or between the servers and the
+    files of a halt; or one stops at the other."""
     calls, said = [draw_call(night), draw_call(night)], {}
     threads = [
         threading.Thread(target=lambda k=k: said.update({k: night.call(calls[k])})) for k in (0, 1)
@@ -168,13 +181,13 @@ def acts_beside_another(night):
     for it in threads:
         it.join()
     tried, saved = [], night.saved()
-    for order in ((0, 1), (1, 0)):
+    for order in orders(calls):
         night.restore(saved)
         complaints = []
-        for k in order:
-            if AT_WORK in said[k][2]:
-                halt_servers(night, calls[k], said[k][2])
-            else:
+        for k, part in order:
+            if part == "servers":
+                complaints += halt_servers(night, calls[k], said[k][2])[1]
+            elif AT_WORK not in said[k][2]:
                 complaints += expect(night, calls[k], said[k], is_loose=True)
         for it in night.servers:
             if it.is_up:
