@@ -1,6 +1,7 @@
 -- Two reports that the same value spells count the same lines.
 use Rattle.std.proofs.Common.{◌≡◌, ◌∙◌, refl, sym, ap, subst, ℕ, suc, ◌<◌, ◌≤◌, List, [], ◌∷◌}
-use Rattle.std.proofs.Common.{length, Bool, cond, Option, Some, None, is_none, count_by, codes}
+use Rattle.std.proofs.Common.{length, Bool, true, false, cond, Option, Some, None, is_none}
+use Rattle.std.proofs.Common.{count_by, codes}
 use Rattle.std.proofs.Common.{string_bytes}
 use Rattle.std.specs.BTreeMap.{btree_map_len, get_by_text, is_at}
 use Rattle.std.specs.Cmp.Lexicographic.{slice_cmp}
@@ -18,7 +19,8 @@ use Rattle.report.specs.declared.question.TheConstants.{QUESTIONS}
 use Rattle.report.specs.declared.tally.Tally.{Tally}
 use Rattle.report.specs.declared.window.Window.{Window}
 use Rattle.report_state.specs.Laws.{CountsContinue}
-use Rattle.report_state.specs.States.{AreRows, HasCounts, HasTables, IsReport, IsRow, IsTable}
+use Rattle.report_state.specs.States.{AreRows, HasCounts, HasTables, IsReport, IsRow, IsTableIf}
+use Rattle.report_state.specs.States.{may_lack}
 use Rattle.serde_json.specs.Data.{Data, Items, no_items, item}
 use Rattle.serde_json.specs.Find.{get}
 
@@ -91,10 +93,14 @@ module _ (limit : ℕ) (names : List RowName) (a b : Tally) where
       moved (λ name. same_found name ds a.rows.entries b.rows.entries one other)
       (same_length ds a.rows.entries b.rows.entries one other) others limits
 
-  pub table_continues : (o : Option Data) → IsSomeAnd o (IsTable a) → IsSomeAnd o (IsTable b)
-      → IsTally limit names a → IsTally limit names b
-  table_continues None one other = absurd one
-  table_continues (Some d) one other =
+  pub table_continues : (may_be_missing : Bool) (o : Option Data) → IsTableIf may_be_missing o a
+      → IsTableIf may_be_missing o b → IsTally limit names a → IsTally limit names b
+  table_continues false None one other = absurd one
+  table_continues true None one other =
+      moved (λ name. same_found name no_items a.rows.entries b.rows.entries one.rows other.rows)
+      (same_length no_items a.rows.entries b.rows.entries one.rows other.rows)
+      (one.others ∙ sym other.others) (one.limit ∙ sym other.limit)
+  table_continues may_be_missing (Some d) one other =
       with_rows (list_in (codes "rows") d) one.rows other.rows
       (some_is _ _ _ one.others other.others) (some_is _ _ _ one.limit other.limit)
 
@@ -107,7 +113,8 @@ module _ (d : Data) (names : Question → List RowName) where
   tables_continue (q ∷ questions) [] ys one other counted = absurd one
   tables_continue (q ∷ questions) (x ∷ xs) [] one other counted = absurd other
   tables_continue (q ∷ questions) (x ∷ xs) (y ∷ ys) one other counted = (
-    table_continues (limit_of q) (names q) x y (get (member_of q) d) one.0 other.0 counted.0,
+    table_continues (limit_of q) (names q) x y (may_lack q) (get (member_of q) d) one.0 other.0
+        counted.0,
     tables_continue questions xs ys one.1 other.1 counted.1,
   )
 
@@ -125,6 +132,8 @@ module _ (window : Window) (lines : List (List ℕ)) (drawn : Bool) (a b : Repor
     offers_left_out =
         some_is _ _ _ other.numbers.offers_left_out one.numbers.offers_left_out
         ∙ c.offers_left_out;
+    longest_wait =
+        sym other.numbers.longest_wait ∙ one.numbers.longest_wait ∙ c.longest_wait;
     tallies = tables_continue d (λ question. all_names window lines (names_of drawn question))
         QUESTIONS a.tallies.items b.tallies.items one.tables other.tables c.tallies;
   }

@@ -1,13 +1,15 @@
 -- The counts of a report and its course as JSON (RFC 8259).
 use Rattle.std.specs.Prelude.{◌≡◌, ℕ, List, [], ◌∷◌, codes, Bool, IsSomeAnd, string_bytes}
-use Rattle.std.specs.Prelude.{Option, Some, None}
+use Rattle.std.specs.Prelude.{Option, Some, None, true, false, unwrap_or}
 use Rattle.std.specs.List.{AllZip}
 use Rattle.json_value.specs.Bytes.{json_of}
 use Rattle.report.specs.LogEvents.{flag_in, list_in, number_in, text_in}
 use Rattle.report.specs.Questions.{member_of}
 use Rattle.report.specs.Tallies.{Rows}
 use Rattle.report.specs.declared.counting.Report.{Report}
+use Rattle.report.specs.declared.question.LineQuestion.TheVariants.{LoadDigest}
 use Rattle.report.specs.declared.question.Question.{Question}
+use Rattle.report.specs.declared.question.Question.TheVariants.{Line, Responses}
 use Rattle.report.specs.declared.question.TheConstants.{QUESTIONS}
 use Rattle.report.specs.declared.tally.Tally.{Tally}
 use Rattle.report_state.specs.declared.course.Course.{Course}
@@ -39,9 +41,27 @@ pub record IsTable (t : Tally) (d : Data) : Type 0 where
   pub others : HasNumber d (codes "others") t.others
   pub rows : IsSomeAnd (list_in (codes "rows") d) (λ ds. AreRows ds t.rows.entries)
 
--- the member of this name is the table
-abbrev pub HasTable : Data → List ℕ → Tally → Type 0
-HasTable d name t = IsSomeAnd (get name d) (IsTable t)
+-- nothing is counted
+pub record IsUnused (t : Tally) : Type 0 where
+  pub limit : t.limit ≡ 256
+  pub others : t.others ≡ 0
+  pub rows : AreRows no_items t.rows.entries
+
+-- a state of an earlier version lacks these tables
+abbrev pub may_lack : Question → Bool
+may_lack Responses = true
+may_lack (Line LoadDigest) = true
+may_lack question = false
+
+-- the table, or nothing is counted if it may be missing
+abbrev pub IsTableIf : (may_be_missing : Bool) → Option Data → Tally → Type 0
+IsTableIf may_be_missing (Some d) t = IsTable t d
+IsTableIf true None t = IsUnused t
+IsTableIf false None t = ⊥
+
+-- the member of the question's name is the table
+abbrev pub HasTable : Data → Question → Tally → Type 0
+HasTable d question t = IsTableIf (may_lack question) (get (member_of question) d) t
 
 -- ---- the counts
 
@@ -51,14 +71,15 @@ pub record HasNumbers (d : Data) (r : Report) : Type 0 where
   pub lost : HasNumber d (codes "lost") r.lost
   pub left_out : HasNumber d (codes "left_out") r.left_out
   pub offers_left_out : HasNumber d (codes "offers_left_out") r.offers_left_out
+  -- a state of an earlier version has none
+  pub longest_wait : unwrap_or (number_in (codes "longest_wait") d) 0 ≡ r.longest_wait
 
 abbrev pub IsDrawn : Data → Bool → Type 0
 IsDrawn d drawn = flag_in (codes "drawn") d ≡ Some drawn
 
 -- the table of each question by its name
 abbrev pub HasTables : Data → List Question → List Tally → Type 0
-HasTables d questions tallies =
-    AllZip (λ question t. HasTable d (member_of question) t) questions tallies
+HasTables d questions tallies = AllZip (λ question t. HasTable d question t) questions tallies
 
 pub record IsReport (r : Report) (d : Data) : Type 0 where
   pub numbers : HasNumbers d r

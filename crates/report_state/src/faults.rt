@@ -6,7 +6,6 @@ use crate::course::Course;
 use crate::row_moments::{first, newest_in};
 use report::{AppQuestion, LineQuestion, Question, Report, Tally};
 use std::alloc::{AllocError, Global};
-use std::fmt::Write;
 
 /// The first texts of the rows of faults among those by the minute.
 const ERRORS: &str = "errors";
@@ -16,6 +15,9 @@ const LOST: &str = "lost";
 const UNKNOWN: &str = "unknown";
 
 const FOREIGN: &str = "foreign";
+
+/// The first text of the rows of waits, whose numbers are microseconds.
+const WAITED: &str = "waited";
 
 /// Numbers of faults.
 #[derive(Clone, Copy)]
@@ -28,6 +30,8 @@ pub struct Faults {
     pub unknown: u64,
     /// Lines that aren't the server's.
     pub foreign: u64,
+    /// The longest wait of a client for a worker, in microseconds.
+    pub longest_wait: u64,
 }
 
 impl Faults {
@@ -36,12 +40,14 @@ impl Faults {
     pub fn of_report(report: &Report) -> Faults
         ensures lost { result.lost ≡ report.now.lost }
         ensures foreign { result.foreign ≡ report.now.foreign }
+        ensures longest_wait { result.longest_wait ≡ report.now.longest_wait }
     {
         Faults {
             errors: errors_in(report),
             lost: report.lost,
             unknown: unknown_in(report),
             foreign: report.foreign,
+            longest_wait: report.longest_wait,
         }
     }
 
@@ -54,6 +60,7 @@ impl Faults {
             lost: noted(minutes, LOST),
             unknown: noted(minutes, UNKNOWN),
             foreign: noted(minutes, FOREIGN),
+            longest_wait: longest(minutes),
         }
     }
 }
@@ -72,7 +79,8 @@ impl Course {
         note(alloc, minutes, ERRORS, minute, faults.errors)?;
         note(alloc, minutes, LOST, minute, faults.lost)?;
         note(alloc, minutes, UNKNOWN, minute, faults.unknown)?;
-        note(alloc, minutes, FOREIGN, minute, faults.foreign)
+        note(alloc, minutes, FOREIGN, minute, faults.foreign)?;
+        note_wait(alloc, minutes, minute, faults.longest_wait)
     }
 }
 
@@ -86,13 +94,46 @@ fn note(
     if n == 0 {
         return Ok(());
     }
-    let mut name = String::from_str(alloc, kind)?;
-    write!(name, "\t\t\t{minute}")?;
+    let name = row_name(alloc, kind, minute)?;
     let count = minutes
         .count_of(name.as_str())
         .unwrap_or(0)
         .saturating_add(n);
     minutes.set(name, count)
+}
+
+// The name of a minute's row of a kind.
+fn row_name(alloc: Global, kind: &str, minute: u64) -> Result<String, AllocError> {
+    format!(in alloc; "{kind}\t\t\t{minute}")
+}
+
+// Of a minute's waits the longest is kept.
+fn note_wait(
+    alloc: Global,
+    minutes: &mut Tally,
+    minute: u64,
+    microseconds: u64,
+) -> Result<(), AllocError> {
+    if microseconds == 0 {
+        return Ok(());
+    }
+    let name = row_name(alloc, WAITED, minute)?;
+    let longest = minutes
+        .count_of(name.as_str())
+        .unwrap_or(0)
+        .max(microseconds);
+    minutes.set(name, longest)
+}
+
+// The longest wait of all rows.
+fn longest(minutes: &Tally) -> u64 {
+    let mut longest = 0;
+    for (name, microseconds) in minutes.rows().iter() {
+        if first(name.as_str()) == WAITED {
+            longest = longest.max(*microseconds);
+        }
+    }
+    longest
 }
 
 // The counts of all rows of a kind.

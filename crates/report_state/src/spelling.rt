@@ -1,10 +1,13 @@
 //! Whether a value of JSON is these counts.
 
-ghost use Rattle.std.specs.Prelude.{◌≡◌, IsSomeAnd, true};
+ghost use Rattle.std.specs.Prelude.{◌≡◌, IsSomeAnd, true, unwrap_or};
 ghost use Rattle.serde_json.specs.View.{items_view, view};
+ghost use Rattle.report.specs.LogEvents.{number_in};
 ghost use Rattle.report_state.specs.States as specs;
 
-use report::{QUESTIONS, Question, Report, Tally, flag_in, list_in, number_in, text_in};
+use report::{
+    LineQuestion, QUESTIONS, Question, Report, Tally, flag_in, list_in, number_in, text_in,
+};
 use serde_json::Value;
 use std::collections::BTreeMap;
 
@@ -57,12 +60,39 @@ pub(crate) fn is_table(value: &Value, tally: &Tally) -> bool
     }
 }
 
-fn has_table(value: &Value, name: &str, tally: &Tally) -> bool
-    ensures { result ≡ true → specs.HasTable (view value.now) name.now tally.now }
+// Whether nothing is counted.
+fn is_unused(tally: &Tally) -> bool
+    ensures { result ≡ true → specs.IsUnused tally.now }
 {
-    match value.get(name) {
+    tally.limit() == 256 && tally.others() == 0 && are_rows(&[], tally.rows())
+}
+
+// Whether a state of an earlier version lacks the table.
+fn may_lack(question: Question) -> bool
+    ensures { result ≡ specs.may_lack question }
+{
+    match question {
+        Question::Responses | Question::Line(LineQuestion::LoadDigest) => true,
+        _ => false,
+    }
+}
+
+fn has_table(value: &Value, question: Question, tally: &Tally) -> bool
+    ensures { result ≡ true → specs.HasTable (view value.now) question tally.now }
+{
+    match value.get(question.member()) {
         Some(table) => is_table(table, tally),
-        None => false,
+        None => may_lack(question) && is_unused(tally),
+    }
+}
+
+// Whether the member of this name is the number, or both are missing.
+fn is_number_or_none(value: &Value, name: &str, number: u64) -> bool
+    ensures { result ≡ true → unwrap_or (number_in name.now (view value.now)) 0 ≡ number }
+{
+    match number_in(value, name) {
+        Some(found) => found == number,
+        None => number == 0,
     }
 }
 
@@ -74,6 +104,7 @@ fn has_numbers(value: &Value, report: &Report) -> bool
         && is_number(value, "lost", report.lost)
         && is_number(value, "left_out", report.left_out)
         && is_number(value, "offers_left_out", report.offers_left_out)
+        && is_number_or_none(value, "longest_wait", report.longest_wait)
 }
 
 fn has_tables(value: &Value, questions: &[Question], tallies: &[Tally]) -> bool
@@ -85,7 +116,7 @@ fn has_tables(value: &Value, questions: &[Question], tallies: &[Tally]) -> bool
         let [tally, rest @ ..] = left else {
             return false;
         };
-        if !has_table(value, question.member(), tally) {
+        if !has_table(value, *question, tally) {
             return false;
         }
         asked = more;

@@ -58,6 +58,7 @@ fn fill_numbers(counts: &Value, report: &mut Report) {
     report.lost = number_in(counts, "lost").unwrap_or(0);
     report.left_out = number_in(counts, "left_out").unwrap_or(0);
     report.offers_left_out = number_in(counts, "offers_left_out").unwrap_or(0);
+    report.longest_wait = number_in(counts, "longest_wait").unwrap_or(0);
 }
 
 fn fill_report(alloc: Global, state: &Value, report: &mut Report) -> Result<(), AllocError> {

@@ -46,6 +46,7 @@ fn put_numbers(counts: &mut ObjectBuilder, report: &Report) {
     counts.put_number("lost", report.lost);
     counts.put_number("left_out", report.left_out);
     counts.put_number("offers_left_out", report.offers_left_out);
+    counts.put_number("longest_wait", report.longest_wait);
     counts.put_bool("drawn", report.drawn);
 }
 
