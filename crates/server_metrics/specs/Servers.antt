@@ -2,12 +2,12 @@
 -- its type, and then its samples.
 use Rattle.std.specs.Prelude.{ℕ, List, [], ◌++◌, codes, Bool, true, false, Option, Some, None}
 use Rattle.std.specs.Prelude.{unwrap_or}
-use Rattle.std.specs.List.{after_first, flat_map}
+use Rattle.std.specs.List.{flat_map}
 use Rattle.std.specs.Str.Lines.{lines}
 use Rattle.cell_assignments.specs.Assignments.{assignments_in}
 use Rattle.report.specs.Counters.{counters_exposition}
 use Rattle.report.specs.Exposition.{label}
-use Rattle.server_replies.specs.Replies.{first_after, is_blank, text_after}
+use Rattle.server_replies.specs.Replies.{first_after, path_of_load, text_after}
 use Rattle.server_replies.specs.Said.{Replies}
 
 abbrev pub gauge : (name help : List ℕ) → List ℕ
@@ -51,14 +51,11 @@ halted_metric lines =
 abbrev pub word_in : (word : List ℕ) → List (List ℕ) → List ℕ
 word_in word lines = unwrap_or (first_after word lines) []
 
--- the path in TIME PATH
-abbrev pub path_in : List ℕ → List ℕ
-path_in loaded = after_first is_blank loaded
-
 abbrev pub lines_metrics : List (List ℕ) → List ℕ
 lines_metrics lines =
     generation_metric (word_in (codes "generation") lines)
-    ++ ruleset_metric (word_in (codes "digest") lines) (path_in (word_in (codes "loaded") lines))
+    ++ ruleset_metric (word_in (codes "digest") lines)
+    (path_of_load (word_in (codes "loaded") lines))
     ++ halted_metric lines
 
 -- an older server has no state

@@ -7,10 +7,10 @@ ghost use Rattle.printing.specs.Pushed.{Puts};
 ghost use Rattle.server_metrics.specs.Servers as specs;
 ghost use Rattle.server_replies.specs.Said.{replies_of, said_by};
 
-use crate::gauges::{push_gauge, push_label};
+use crate::gauges::push_gauge;
 use cell_assignments::read_assignments;
-use report::counters_text;
-use server_replies::{ServerFacts, ServerReplies, first_after, lines_of, text_after};
+use report::{counters_text, push_label};
+use server_replies::{ServerFacts, ServerReplies, first_after, lines_of, path_of_load, text_after};
 use std::alloc::{AllocError, Global};
 use std::fmt::Write;
 
@@ -113,7 +113,7 @@ fn push_lines(text: &mut String, lines: &[&str]) -> Result<(), AllocError>
     push_ruleset(
         text,
         word_in("digest", lines),
-        path_in(word_in("loaded", lines)),
+        path_of_load(word_in("loaded", lines)),
     )?;
     push_halted(text, lines)?;
     Ok(())
@@ -145,16 +145,6 @@ fn push_ruleset(text: &mut String, digest: &str, path: &str) -> Result<(), Alloc
     text.push_str(",")?;
     push_label(text, "path", path)?;
     text.push_str("} 1\n")
-}
-
-// The path after the time of a load.
-fn path_in<'a>(loaded: &'a str) -> &'a str
-    ensures { result.now ≡ specs.path_in loaded.now }
-{
-    match loaded.split_once(' ') {
-        Some((_time, path)) => path,
-        None => "",
-    }
 }
 
 // A sample for each halted app.
