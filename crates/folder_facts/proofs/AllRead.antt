@@ -1,5 +1,5 @@
 -- If nothing is named as unread, all is read.
-use Rattle.std.proofs.Common.{◌≡◌, ◌++◌, List, [], ◌∷◌, IfOk, Ok, Err, length, refl}
+use Rattle.std.proofs.Common.{◌≡◌, ◌-◌, ◌++◌, List, [], ◌∷◌, IfOk, Ok, Err, length, refl}
 use Rattle.std.specs.Prelude.{Result, ℕ}
 use Rattle.std.specs.declared.alloc.AllocError.{AllocError}
 use Rattle.bounded_files.specs.Files.{KnownFiles}
@@ -42,11 +42,14 @@ pub steps_shown : (records : KnownRecords) (recorded : RecordedSteps)
     (result : Result ShownSteps AllocError) → AreRecorded records recorded
     → IfOk result (λ shown. AreTaken recorded.steps.items shown.steps.items)
     → IfOk result (λ shown. length shown.unread.items ≡ length recorded.unread.items)
-    → IfOk result (λ shown. shown.unread.items ≡ [] → AreStepsShown records shown.steps.items)
-steps_shown records recorded (Ok shown) are taken few = λ none. record {
+    → IfOk result (λ shown. shown.earlier ≡ length recorded.steps.items - 20)
+    → IfOk result (λ shown. shown.unread.items ≡ []
+    → AreStepsShown records shown.steps.items shown.earlier)
+steps_shown records recorded (Ok shown) are taken few earlier = λ none. record {
   recorded = recorded;
   are = are;
   all_read = as_few shown.unread.items recorded.unread.items few none;
   are_taken = taken;
+  earlier_is = earlier;
 }
-steps_shown records recorded (Err fault) are taken few = taken
+steps_shown records recorded (Err fault) are taken few earlier = taken

@@ -1,1 +1,2 @@
 pub mod AllRead
+pub mod Quotas

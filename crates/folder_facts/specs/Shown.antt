@@ -21,12 +21,14 @@ abbrev pub AreTaken : List StagingStep → List TakenStep → Type 0
 AreTaken steps taken =
     map (λ step. step.number) (reverse taken) ≡ map (λ step. step.number) (last_steps steps)
 
--- all records are read, and these are the last steps
-pub record AreStepsShown (records : KnownRecords) (taken : List TakenStep) : Type 0 where
+-- all records are read, these are the last steps, and `earlier` is the number of those before
+pub record AreStepsShown (records : KnownRecords) (taken : List TakenStep) (earlier : ℕ)
+    : Type 0 where
   pub recorded : RecordedSteps
   pub are : AreRecorded records recorded
   pub all_read : recorded.unread.items ≡ []
   pub are_taken : AreTaken recorded.steps.items taken
+  pub earlier_is : earlier ≡ length recorded.steps.items - 20
 
 -- the manifest at this path is read, and these are its apps
 pub record AreAppsShown (files : KnownFiles) (path : List ℕ) (apps : List OfferedApp)
@@ -39,4 +41,4 @@ pub record AreAppsShown (files : KnownFiles) (path : List ℕ) (apps : List Offe
 pub record IsShown (files : KnownFiles) (path : List ℕ) (records : KnownRecords)
     (facts : FolderFacts) : Type 0 where
   pub apps : AreAppsShown files path facts.apps.items
-  pub steps : AreStepsShown records facts.steps.items
+  pub steps : AreStepsShown records facts.steps.items facts.earlier_steps

@@ -49,8 +49,8 @@ fn joined(mut unread: Vec<String>, more: Vec<String>) -> Result<Vec<String>, All
 
 /// What a folder says: what each app of the manifest at this path is offered, and the last 20
 /// steps. What can't be read is left out, and named among `unread`.
-// open: whether an allocation fails; the texts, which quotas there are and their indices, what a
-// step shows besides its number, and what is shown if something can't be read: rows.
+// open: whether an allocation fails; the texts, which quotas there are, what a step shows besides
+// its number, and what is shown if something can't be read: rows.
 pub fn facts_in<D: Disk, F: StageFolder>(
     alloc: Global,
     disk: &D,
@@ -63,12 +63,14 @@ pub fn facts_in<D: Disk, F: StageFolder>(
     let ShownApps { apps, unread } = apps_at(alloc, disk, manifest)?;
     let ShownSteps {
         steps,
+        earlier,
         unread: records,
     } = shown_steps(alloc, folder)?;
     let unread = joined(unread, records)?;
     Ok(FolderFacts {
         apps,
         steps,
+        earlier_steps: earlier,
         unread,
     })
 }
@@ -91,6 +93,7 @@ where
             Ok(FolderFacts {
                 apps: Vec::new(alloc),
                 steps: Vec::new(alloc),
+                earlier_steps: 0,
                 unread: Vec::from_array(alloc, [sentence])?,
             })
         }

@@ -1,6 +1,6 @@
 //! The quotas of a rule: the cells from which it takes, and how many takes each grants.
 
-ghost use Rattle.std.specs.Prelude.{◌≡◌, All, IfOk, OnOk, option_copied};
+ghost use Rattle.std.specs.Prelude.{◌≡◌, All, IfOk, IfSome, OnOk, option_copied};
 ghost use Rattle.folder_facts.specs.Offered.{IsQuotaIn};
 ghost use Rattle.folder_facts.specs.Offered as specs;
 
@@ -21,16 +21,6 @@ fn array_named<'a>(arrays: &'a [ArrayDeclaration], name: &str) -> Option<&'a Arr
         left = others;
     }
     None
-}
-
-// The quota of that array.
-fn quota_named(arrays: &[ArrayDeclaration], name: &str) -> Option<u64>
-    ensures { result ≡ specs.quota_named arrays.now name.now }
-{
-    match array_named(arrays, name) {
-        Some(array) => array.quota(),
-        None => None,
-    }
 }
 
 fn has_cell(quotas: &[OfferedQuota], array: &str, index: u16) -> bool {
@@ -56,16 +46,36 @@ fn push_quota(
     if has_cell(quotas.as_slice(), array, index) {
         return Ok(());
     }
-    let Some(limit) = quota_named(arrays, array) else {
-        return Ok(());
+    if let Some(quota) = quota_in(alloc, arrays, array, index)? {
+        quotas.push(quota)?;
+    }
+    Ok(())
+}
+
+// The quota of a cell, if its array is declared with one, and has the cell.
+#[tactic(auto, using(crate::proofs::Quotas::quota_found))]
+fn quota_in(
+    alloc: Global,
+    arrays: &[ArrayDeclaration],
+    array: &str,
+    index: u16,
+) -> Result<Option<OfferedQuota>, AllocError>
+    ensures { IfOk result (λ found. IfSome found (IsQuotaIn arrays.now)) }
+{
+    let Some(declared) = array_named(arrays, array) else {
+        return Ok(None);
     };
-    let name = String::from_str(alloc, array)?;
-    quotas.push(OfferedQuota {
-        array: name,
+    let Some(limit) = declared.quota() else {
+        return Ok(None);
+    };
+    if index >= declared.length() {
+        return Ok(None);
+    }
+    Ok(Some(OfferedQuota {
+        array: String::from_str(alloc, array)?,
         index: u64::from(index),
         limit,
-    })?;
-    Ok(())
+    }))
 }
 
 // Adds the quotas of the cells from which a condition takes.
@@ -94,6 +104,7 @@ fn push_condition(
 
 /// The quota of each cell from which a rule takes, as these arrays declare it, in the order of the
 /// takes.
+// open: that none is left out: rows.
 pub(crate) fn quotas_of(
     alloc: Global,
     arrays: &[ArrayDeclaration],

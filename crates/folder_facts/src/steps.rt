@@ -1,6 +1,6 @@
 //! The last steps of a folder, as a page shows them.
 
-ghost use Rattle.std.specs.Prelude.{◌≡◌, [], IfOk, length};
+ghost use Rattle.std.specs.Prelude.{◌≡◌, ◌-◌, [], IfOk, length};
 ghost use Rattle.folder_facts.specs.Shown.{AreStepsShown, AreTaken};
 ghost use Rattle.folder_facts.specs.Shown as specs;
 
@@ -20,6 +20,8 @@ const MOST_STEPS: usize = 20;
 #[derive(Drop)]
 pub(crate) struct ShownSteps {
     pub(crate) steps: Vec<TakenStep>,
+    /// How many steps were taken before these.
+    pub(crate) earlier: u64,
     pub(crate) unread: Vec<String>,
 }
 
@@ -105,10 +107,17 @@ fn shown_of<F: StageFolder>(
         (λ shown. AreTaken recorded.now.steps.items shown.steps.items) }
     ensures unread { IfOk result
         (λ shown. length shown.unread.items ≡ length recorded.now.unread.items) }
+    ensures earlier { IfOk result
+        (λ shown. shown.earlier ≡ length recorded.now.steps.items - 20) }
 {
     let steps = taken_steps(alloc, folder, &recorded.steps)?;
     let unread = unread_records(alloc, &recorded.unread)?;
-    Ok(ShownSteps { steps, unread })
+    let earlier = recorded.steps.len().saturating_sub(MOST_STEPS) as u64;
+    Ok(ShownSteps {
+        steps,
+        earlier,
+        unread,
+    })
 }
 
 /// The last steps of a folder. If its records, or one of them, can't be opened, it has none, and a
@@ -118,7 +127,7 @@ pub(crate) fn shown_steps<F: StageFolder>(
     folder: &F,
 ) -> Result<ShownSteps, AllocError>
     ensures { IfOk result (λ shown. shown.unread.items ≡ []
-        → AreStepsShown (F.records folder.now) shown.steps.items) }
+        → AreStepsShown (F.records folder.now) shown.steps.items shown.earlier) }
 {
     match recorded_steps(alloc, folder) {
         Ok(recorded) => {
@@ -130,6 +139,7 @@ pub(crate) fn shown_steps<F: StageFolder>(
             let sentence = no_records(alloc, fault)?;
             Ok(ShownSteps {
                 steps: Vec::new(alloc),
+                earlier: 0,
                 unread: Vec::from_array(alloc, [sentence])?,
             })
         }
