@@ -79,6 +79,7 @@ fn why_other(
 }
 
 /// The rule of an app, whose shape and whose file's bytes are given.
+// open: whether something else is a rule, and what the sentence is: rows.
 pub fn rule_text(
     alloc: Global,
     app: &AppEntry,

@@ -6,9 +6,9 @@ use stage_records::{FileState, ReplacedFile, StagingStep};
 /// What became of a step.
 #[derive(Clone, Copy, PartialEq, Eq)]
 pub enum StepState {
-    /// All its files were replaced.
+    /// No file of it is known to be as it found it.
     Done,
-    /// A file of it is as it found it: it stopped, or undoing it did.
+    /// A file of it is as it found it.
     Stopped,
     /// It is undone.
     Undone,
@@ -46,7 +46,7 @@ fn is_left_alone<F: StageFolder>(folder: &F, file: &ReplacedFile, later: &[Stagi
     }
 }
 
-// Whether a file of a step is as the step found it: it stopped, or undoing it did.
+// Whether a file of a step is as the step found it.
 fn has_stopped<F: StageFolder>(folder: &F, step: &StagingStep, later: &[StagingStep]) -> bool {
     for file in &step.files {
         if is_left_alone(folder, file, later) {
