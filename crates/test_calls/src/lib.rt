@@ -6,6 +6,8 @@
 #[cfg(test)]
 mod device_files;
 #[cfg(test)]
+mod failing_records;
+#[cfg(test)]
 mod failing_steps;
 #[cfg(test)]
 mod files;
