@@ -16,14 +16,15 @@ use stage_servers::{
 use std::net::{Net, TcpStream};
 use std::time::Clock;
 
-// Whether no server serves another step's files, or some server what is in place.
+// Whether no server serves another step's files, or some server what is in place, or what nobody
+// knows.
 fn is_present_served(servers: &[Surveyed]) -> bool {
     let mut is_other = false;
     for server in servers {
         match &server.serves {
             Serves::Step { .. } => is_other = true,
             Serves::InPlace | Serves::Unknown => return true,
-            Serves::Undone | Serves::Other { .. } => {}
+            Serves::LastLoaded | Serves::Other { .. } => {}
         }
     }
     !is_other
@@ -104,7 +105,7 @@ fn is_compared(servers: &[Surveyed], server: &Surveyed) -> bool {
     match &server.serves {
         Serves::InPlace | Serves::Unknown => true,
         Serves::Step { number, .. } => is_repeated(servers, server.port, *number),
-        Serves::Undone | Serves::Other { .. } => false,
+        Serves::LastLoaded | Serves::Other { .. } => false,
     }
 }
 
@@ -170,9 +171,9 @@ where
     }
 }
 
-/// Prints what changes from what is in place, if a server serves that or none serves an earlier
-/// step; and from what each server serves that serves something else. Returns whether a row is
-/// lost, or an app isn't compared.
+/// Prints what changes from what is in place, if a server serves that or may, or none serves an
+/// earlier step; and from what each server serves that serves something else. Returns whether a row
+/// is lost, or an app isn't compared.
 pub(crate) fn push_all_rows<R, D>(
     call: &StageCall<'_, R, D>,
     both: &mut OpenedBoth,

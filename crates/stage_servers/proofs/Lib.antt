@@ -1,4 +1,5 @@
 mod GoesOn
+mod Ports
 mod Then
 mod Whole
 mod Unedited

@@ -1,13 +1,16 @@
 -- What is known of each file makes a folder that nobody edited.
 use Rattle.std.proofs.Common.{◌≡◌, ◌∙◌, sym, true≢false}
 use Rattle.std.proofs.Common.{List, [], ◌∷◌, Bool, true, false}
-use Rattle.std.specs.Prelude.{All, not, Result, Ok, Err, OnOk}
+use Rattle.std.specs.Prelude.{All, IfSome, not, Result, Ok, Err, OnOk}
 use Rattle.std.specs.List.{list_any}
 use Rattle.std.proofs.lemmas.List.Elements.{All-cons, All-nil}
 use Rattle.stage_folder.specs.Folders.{KnownFolder}
+use Rattle.stage_records.specs.FileStates.{state_of}
 use Rattle.stage_records.specs.Steps.{ReplacedFile, StagingStep}
+use Rattle.stage_records.specs.declared.file_state.FileState.{FileState}
+use Rattle.stage_records.specs.declared.file_state.FileState.TheVariants.{After}
 use Rattle.stage_servers.specs.Unedited.{AreFilesUnedited, IsLastLeft, counts, replaces}
-use Rattle.stage_servers.specs.Whole.{IsAsLeft}
+use Rattle.stage_servers.proofs.Whole.{as_left}
 use Rattle.stage_servers.specs.declared.outcome.Stop.{Stop}
 
 pub replaced : (folder : KnownFolder) (later : List StagingStep) (file : ReplacedFile)
@@ -16,8 +19,9 @@ pub replaced : (folder : KnownFolder) (later : List StagingStep) (file : Replace
 replaced folder later file is by so = λ none. absurd (true≢false (sym so ∙ by ∙ none))
 
 pub left : (folder : KnownFolder) (later : List StagingStep) (file : ReplacedFile)
-    → IsAsLeft folder file → IsLastLeft folder later file
-left folder later file is = λ none. is
+    (state : FileState) → IfSome folder (λ known. state ≡ state_of file (known file.name))
+    → state ≡ After → IsLastLeft folder later file
+left folder later file state is after = λ none. as_left folder file state is after
 
 pub both_left : (folder : KnownFolder) (later : List StagingStep) (file : ReplacedFile)
     (files : List ReplacedFile) → IsLastLeft folder later file

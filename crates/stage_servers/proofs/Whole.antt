@@ -1,9 +1,9 @@
 -- What is known of each file and record makes a whole folder.
-use Rattle.std.proofs.Common.{◌≡◌, ◌∙◌, ap, refl, subst, sym, ℕ, List, [], ◌∷◌, Bool, true, false}
+use Rattle.std.proofs.Common.{◌≡◌, ◌∙◌, refl, subst, sym, List, [], ◌∷◌, Bool, true, false}
 use Rattle.std.proofs.Common.{true≢false}
-use Rattle.std.specs.Prelude.{◌&&◌, All, IfSome, Option, Some, None}
+use Rattle.std.specs.Prelude.{◌&&◌, All, IfSome, Some, None}
 use Rattle.std.proofs.lemmas.List.Elements.{All-cons}
-use Rattle.stage_folder.specs.Folders.{GivesFile, KnownFolder, KnownRecords}
+use Rattle.stage_folder.specs.Folders.{KnownFolder, KnownRecords}
 use Rattle.stage_folder.specs.Recorded.{AreRecorded}
 use Rattle.stage_folder.specs.declared.records.RecordedSteps.{RecordedSteps}
 use Rattle.stage_records.specs.FileStates.{state_of}
@@ -12,12 +12,11 @@ use Rattle.stage_records.specs.declared.file_state.FileState.{FileState}
 use Rattle.stage_records.specs.declared.file_state.FileState.TheVariants.{After}
 use Rattle.stage_servers.specs.Whole.{AreAllRead, AreAsLeft, IsAsLeft, IsWhole}
 
-pub as_left : (folder : KnownFolder) (file : ReplacedFile) (found : Option (List ℕ))
-    (state : FileState) → GivesFile folder file.name found → state ≡ state_of file found
-    → state ≡ After → IsAsLeft folder file
-as_left None file found state given is after = tt
-as_left (Some known) file found state given is after =
-    ap (state_of file) given ∙ sym is ∙ after
+pub as_left : (folder : KnownFolder) (file : ReplacedFile) (state : FileState)
+    → IfSome folder (λ known. state ≡ state_of file (known file.name)) → state ≡ After
+    → IsAsLeft folder file
+as_left None file state is after = tt
+as_left (Some known) file state is after = sym is ∙ after
 
 pub both_left : (folder : KnownFolder) (file : ReplacedFile) (files : List ReplacedFile)
     (one others : Bool) → (one ≡ true → IsAsLeft folder file)

@@ -2,24 +2,28 @@
 use Rattle.std.specs.Prelude.{◌≡◌, ℕ, ◌==◌, nat_lt, ◌||◌, not, List, Bool, true, false}
 use Rattle.std.specs.Prelude.{if◌then◌else◌, Option, Some, None}
 use Rattle.bounded_files.specs.Files.{KnownFiles}
-use Rattle.load.specs.Digest.{digest_of}
 use Rattle.load.specs.Opened.{IsCollected}
 use Rattle.load.specs.declared.opened.CollectedManifest.{CollectedManifest}
 use Rattle.stage_records.specs.declared.action.StageAction.{StageAction}
 use Rattle.stage_records.specs.declared.action.StageAction.TheVariants as action
+use Rattle.stage_servers.specs.Served.{HasDigest}
 use Rattle.stage_servers.specs.declared.options.StageOptions.{StageOptions}
 use Rattle.stage_servers.specs.declared.serves.Serves.{Serves}
 use Rattle.stage_servers.specs.declared.serves.Serves.TheVariants as serves
 use Rattle.stage_servers.specs.declared.serves.Surveyed.{Surveyed}
+
+-- what is in place has this digest
+abbrev pub IsInPlaceAs : KnownFiles → (current : List ℕ) → (digest : Option (List ℕ)) → Type 0
+IsInPlaceAs known current (Some digest) = (manifest : CollectedManifest)
+    × IsCollected known current manifest × HasDigest digest manifest
+IsInPlaceAs known current None = ⊥
 
 -- what a server serves, by the digest that it replied, if a reply could be read: what is in place,
 -- with that digest, or a step under that digest. Whose files these are, which step this is, and
 -- whether it is something else, the survey found
 abbrev pub IsServedBy : KnownFiles → (current : List ℕ) → (digest : Option (List ℕ)) → Serves
     → Type 0
-IsServedBy known current digest serves.InPlace = (manifest : CollectedManifest)
-    × IsCollected known current manifest
-    × (digest_of manifest.bytes.items manifest.sources.apps.items ≡ digest)
+IsServedBy known current digest serves.InPlace = IsInPlaceAs known current digest
 IsServedBy known current digest (serves.Step number later files left) = digest ≡ Some left
 IsServedBy known current digest serves.Unknown = digest ≡ None
 IsServedBy known current digest other = Unit {0}

@@ -1,5 +1,6 @@
 pub mod Apps
 pub mod Drift
+pub mod Ports
 pub mod Replaced
 pub mod Served
 pub mod Stops

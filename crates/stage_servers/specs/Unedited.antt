@@ -34,7 +34,7 @@ abbrev pub AreFilesUnedited : (is_back : Bool) → KnownFolder → StagingStep
 AreFilesUnedited is_back folder step later =
     counts is_back step later ≡ true → All (IsLastLeft folder later) step.files
 
--- each file is as the last of these steps left it that replaced it and isn't undone
+-- the same of each of these steps
 abbrev pub AreUnedited : (is_back : Bool) → KnownFolder → List StagingStep → Type 0
 AreUnedited is_back folder [] = Unit {0}
 AreUnedited is_back folder (step ∷ later) =
@@ -63,7 +63,13 @@ abbrev pub depends_on_files : StageAction → List Surveyed → Bool
 depends_on_files action servers = list_all (λ server. is_unknown server.serves) servers
     || (not (is_put action) && list_any (λ server. serves_last server.serves) servers)
 
--- only one that changes files, but isn't a halt, does so; and `--anyway` continues it
+-- only one that changes files, but isn't a halt, does so; it reads the records first, whatever the
+-- options are
+abbrev pub reads_records : StageAction → List Surveyed → Bool
+reads_records action servers =
+    not (only_looks action || is_halt action) && depends_on_files action servers
+
+-- it also compares the files, unless `--anyway` continues it
 abbrev pub compares_files : StageOptions → StageAction → List Surveyed → Bool
 compares_files options action servers =
     not (only_looks action || is_halt action || options.anyway) && depends_on_files action servers

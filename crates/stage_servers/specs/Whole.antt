@@ -14,6 +14,10 @@ pub record AreAllRead (records : KnownRecords) (recorded : RecordedSteps) : Type
   pub are : AreRecorded records recorded
   pub all_read : recorded.unread.items ≡ []
 
+-- each record is a step's
+abbrev pub HasOnlySteps : KnownRecords → Type 0
+HasOnlySteps records = (recorded : RecordedSteps) × AreAllRead records recorded
+
 -- a file is as a step left it
 abbrev pub IsAsLeft : KnownFolder → ReplacedFile → Type 0
 IsAsLeft folder file = IfSome folder (λ known. state_of file (known file.name) ≡ After)
@@ -37,6 +41,5 @@ only_looks other = false
 -- what holds if a status or a history is done
 abbrev pub IsSeenWhole : StageAction → KnownRecords → KnownFolder → Type 0
 IsSeenWhole action.Status records folder = IsWhole records folder
-IsSeenWhole (action.History appid) records folder =
-    (recorded : RecordedSteps) × AreAllRead records recorded
+IsSeenWhole (action.History appid) records folder = HasOnlySteps records
 IsSeenWhole other records folder = Unit {0}

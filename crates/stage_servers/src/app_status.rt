@@ -58,7 +58,8 @@ fn has_replaced(step: &StagingStep, name: &str, bytes: Option<&[u8]>) -> bool {
     }
 }
 
-// The last step before this number that isn't undone, and replaced a file that now has these bytes.
+// The last step before this number that isn't undone, and replaced a file that isn't as it found
+// it.
 fn last_of_file<'x>(
     steps: &'x [StagingStep],
     name: &str,
@@ -75,7 +76,7 @@ fn last_of_file<'x>(
     last
 }
 
-// Since when a file has these bytes, which it had before a step of this number, and by whom.
+// Since when a file is as a step left it, but for edits, before a step of this number, and by whom.
 fn since_of(
     standing: &Standing<'_>,
     name: &str,

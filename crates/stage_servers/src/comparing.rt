@@ -15,7 +15,7 @@ fn is_unknown(server: &Surveyed) -> bool
         Serves::Unknown => true,
         Serves::InPlace => false,
         Serves::Step { .. } => false,
-        Serves::Undone => false,
+        Serves::LastLoaded => false,
         Serves::Other { .. } => false,
     }
 }
@@ -39,7 +39,7 @@ fn serves_last(server: &Surveyed) -> bool
     match &server.serves {
         Serves::Step { later, .. } => *later == 0,
         Serves::InPlace => false,
-        Serves::Undone => false,
+        Serves::LastLoaded => false,
         Serves::Other { .. } => false,
         Serves::Unknown => false,
     }

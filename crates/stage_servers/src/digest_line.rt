@@ -44,8 +44,8 @@ fn last_in<B: BufRead>(alloc: Global, reader: &mut B) -> io::Result<Option<Strin
     Ok(last)
 }
 
-/// The last digest in a log, which is that of the last start or load that wasn't refused; None if
-/// it has none.
+/// The last digest in a log, which is that of the last load, or of a start that was about to serve;
+/// None if it has none.
 pub(crate) fn last_digest<R>(rt: &R, log: &str) -> io::Result<Option<String>>
 where
     R: Files + AllocGlobal,

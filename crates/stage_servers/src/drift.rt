@@ -17,13 +17,13 @@ use std::alloc::Global;
 
 // ---- the words
 
-/// Adds what a server serves, if that isn't what is in place.
+/// Adds what a server serves, which has to be known.
 // open: what the words are: rows, and bench/outside.
 pub fn push_serves(text: &mut TextBuffer, serves: &Serves) {
     match serves {
         Serves::Step { number: 0, .. } => text.push("what was there before the first step"),
         Serves::Step { number, .. } => text.push_number("step ", *number as u64, ""),
-        Serves::Undone => text.push("a step that is undone"),
+        Serves::LastLoaded => text.push("a step that is undone"),
         Serves::Other { loaded, .. } => {
             text.push_printed("what no step left, loaded ", loaded.as_str(), "")
         }
@@ -79,7 +79,7 @@ fn is_strange(serves: &Serves) -> bool
         Serves::Other { strange: None, .. } => false,
         Serves::InPlace => false,
         Serves::Step { .. } => false,
-        Serves::Undone => false,
+        Serves::LastLoaded => false,
         Serves::Unknown => false,
     }
 }
@@ -102,7 +102,7 @@ fn is_expected(action: &StageAction<'_>, serves: &Serves) -> bool
         Serves::InPlace => true,
         Serves::Unknown => true,
         Serves::Step { later, .. } => is_last(action, *later),
-        Serves::Undone => false,
+        Serves::LastLoaded => false,
         Serves::Other { .. } => false,
     }
 }

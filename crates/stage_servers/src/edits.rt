@@ -8,18 +8,18 @@ ghost use Rattle.stage_servers.specs.Drift.{is_back};
 ghost use Rattle.stage_servers.specs.Unedited as specs;
 ghost use Rattle.stage_servers.specs.Unedited.{AreFilesUnedited, AreUnedited};
 ghost use Rattle.stage_servers.specs.Unedited.{IsLastLeft, IsUnedited};
+ghost use Rattle.stage_servers.specs.Whole.{HasOnlySteps};
 
 use crate::action_kinds::{is_back, is_halt};
 use crate::comparing::depends_on_files;
 use crate::edit_texts::{Serving, serving_last, unlike};
-use crate::history::state_of;
 use crate::options::StageCall;
 use crate::outcome::{Lines, Stop};
 use crate::recorded::read_steps;
 use crate::refusals::in_folder;
 use crate::replaced_files::file_named;
 use crate::serves::Surveyed;
-use stage_folder::StageFolder;
+use stage_folder::{StageFolder, state_in};
 use stage_records::{FileState, ReplacedFile, StageAction, StagingStep, last_step};
 use std::alloc::Global;
 
@@ -64,7 +64,7 @@ fn stop_unless_left<F: StageFolder>(
     if is_replaced(later, name) {
         return Ok(());
     }
-    let state = match state_of(folder, file) {
+    let state = match state_in(folder, file) {
         Ok(state) => state,
         Err(fault) => return Err(in_folder(alloc, name, fault)),
     };
@@ -145,35 +145,6 @@ fn stop_if_some_edited<F: StageFolder>(
     }
 }
 
-// The same of the recorded steps.
-fn stop_by_records<F: StageFolder>(
-    alloc: Global,
-    folder: &F,
-    is_back: bool,
-    serving: Option<Serving>,
-) -> Result<(), Stop>
-    ensures { OnOk result (IsUnedited is_back (F.records folder.now) (F.files folder.now)) }
-{
-    let recorded = match read_steps(alloc, folder) {
-        Ok(recorded) => recorded,
-        Err(stop) => return Err(stop),
-    };
-    let stop = stop_if_some_edited(alloc, folder, is_back, &recorded.steps, serving);
-    drop(recorded);
-    stop
-}
-
-// Stops if a record isn't a step's, or can't be read: which `--anyway` doesn't continue.
-fn stop_if_unread<F: StageFolder>(alloc: Global, folder: &F) -> Result<(), Stop> {
-    match read_steps(alloc, folder) {
-        Ok(recorded) => {
-            drop(recorded);
-            Ok(())
-        }
-        Err(stop) => Err(stop),
-    }
-}
-
 /// Stops before anything is changed, if a record can't be read; or if a file can't be read, or
 /// isn't as the last step left it that replaced it and isn't undone, unless `--anyway` is given. It
 /// looks if no server says what it serves, or if one serves what the last step left, and that isn't
@@ -189,17 +160,23 @@ pub fn stop_if_edited<R, D, F>(
 where
     R: AllocGlobal,
     F: StageFolder,
-    ensures { OnOk result (specs.compares_files call.now.options.now action.now servers.now ≡ true
+    ensures read { OnOk result (specs.reads_records action.now servers.now ≡ true
+        → HasOnlySteps (F.records folder.now)) }
+    ensures unedited { OnOk result
+        (specs.compares_files call.now.options.now action.now servers.now ≡ true
         → IsUnedited (is_back action.now) (F.records folder.now) (F.files folder.now)) }
 {
     if is_halt(action) || !depends_on_files(action, servers) {
         return Ok(());
     }
     let (alloc, serving) = (call.rt.alloc(), serving_last(servers));
-    if let Err(stop) = stop_if_unread(alloc, folder) {
-        return Err(stop);
-    }
-    match stop_by_records(alloc, folder, is_back(action), serving) {
+    let recorded = match read_steps(alloc, folder) {
+        Ok(recorded) => recorded,
+        Err(stop) => return Err(stop),
+    };
+    let edited = stop_if_some_edited(alloc, folder, is_back(action), &recorded.steps, serving);
+    drop(recorded);
+    match edited {
         Ok(()) => Ok(()),
         Err(stop) => lines.go_on_if(call.options.anyway, stop),
     }

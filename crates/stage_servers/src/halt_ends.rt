@@ -149,15 +149,37 @@ where
     }
 }
 
-/// Has the server at a port offer these apps again, as their files say. Returns whether it does. An
-/// older server has halted nothing without a load.
-pub(crate) fn resume_at<R>(rt: &R, port: u16, appids: &[String], lines: &mut Lines) -> bool
+// Whether an app is among those that a server halts, or these aren't known.
+fn may_halt(halted: Option<&[String]>, appid: &str) -> bool {
+    let Some(halted) = halted else {
+        return true;
+    };
+    for name in halted {
+        if name.as_str() == appid {
+            return true;
+        }
+    }
+    false
+}
+
+/// Has the server at a port offer these apps again, as their files say. Returns whether it does. It
+/// is sent nothing of an app that it is known not to halt. An older server halts none without a
+/// load.
+pub(crate) fn resume_at<R>(
+    rt: &R,
+    port: u16,
+    halted: Option<&[String]>,
+    appids: &[String],
+    lines: &mut Lines,
+) -> bool
 where
     R: AllocGlobal + Net<Stream = TcpStream>,
 {
     let mut all = true;
     for appid in appids {
-        all = resume_app_at(rt, port, appid.as_str(), lines) && all;
+        if may_halt(halted, appid.as_str()) {
+            all = resume_app_at(rt, port, appid.as_str(), lines) && all;
+        }
     }
     all
 }

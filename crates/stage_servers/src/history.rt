@@ -2,35 +2,17 @@
 
 // No contract says what is printed: rows compare it.
 
-ghost use Rattle.std.specs.Prelude.{◌≡◌, [], IfOk, IfSome, true};
-ghost use Rattle.stage_folder.specs.declared.records.RecordedSteps.{RecordedSteps};
-ghost use Rattle.stage_records.specs.FileStates as specs;
-ghost use Rattle.stage_records.specs.declared.file_state.FileState.TheVariants.{After};
-ghost use Rattle.stage_servers.specs.Whole.{AreAllRead, IsAsLeft};
+ghost use Rattle.std.specs.Prelude.{◌≡◌, [], IfOk, true};
+ghost use Rattle.stage_servers.specs.Whole.{HasOnlySteps};
 
 use crate::options::StageCall;
 use crate::outcome::{Lines, Stop};
 use crate::refusals::{RECORDS, in_folder};
 use printing::TextBuffer;
-use stage_folder::{FolderFault, RecordedSteps, StageFolder, recorded_steps};
-use stage_records::{FileState, ReplacedFile, StagingStep, StepAction};
+use stage_folder::{StageFolder, recorded_steps};
+use stage_records::{StagingStep, StepAction};
 use stage_text::{push_step, step_state};
 use std::alloc::Global;
-
-/// How a file is now, compared with what a step found and left.
-#[tactic(auto, using(crate::proofs::Whole::as_left))]
-pub(crate) fn state_of<F: StageFolder>(
-    folder: &F,
-    file: &ReplacedFile,
-) -> Result<FileState, FolderFault>
-    ensures state { IfOk result (λ state. IfSome (F.files folder.now)
-        (λ known. state ≡ specs.state_of file.now (known file.now.name))) }
-    ensures left { IfOk result (λ state.
-        state ≡ After → IsAsLeft (F.files folder.now) file.now) }
-{
-    let found = folder.read(file.name.as_str())?;
-    Ok(file.state(found.as_deref()))
-}
 
 // Whether a step is about an app, or about all apps of a manifest.
 fn is_about(step: &StagingStep, appid: Option<&str>) -> bool {
@@ -93,8 +75,7 @@ pub fn push_history<R, D, F>(
 where
     R: AllocGlobal,
     F: StageFolder,
-    ensures { IfOk result (λ read. read ≡ true → (recorded : RecordedSteps)
-        × AreAllRead (F.records folder.now) recorded) }
+    ensures { IfOk result (λ read. read ≡ true → HasOnlySteps (F.records folder.now)) }
 {
     let alloc = call.rt.alloc();
     let recorded = match recorded_steps(alloc, folder) {

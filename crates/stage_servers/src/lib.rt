@@ -7,10 +7,10 @@
 // How it works. A halt is sent to the servers before a file is read (`server_halts.rt`). Each
 // server's state is compared with the recorded steps (`surveying.rt`), by the digest of what a step
 // left (`earlier_files.rt`). An action but a halt stops if a server serves neither what is in place
-// nor what the last step left (`drift.rt`), or if a file was edited (`edits.rt`). Once the files
-// are changed, each server loads the manifest (`loads.rt`), and then offers again the apps whose
-// halts are lifted (`halt_ends.rt`). Its reply is noted (`load_notes.rt`), by which a status knows
-// what an older server serves (`servers.rt`).
+// nor what the last step left (`drift.rt`), or at an edited file, if it looks at the files
+// (`edits.rt`). Once the files are changed, each server loads the manifest (`loads.rt`), and then
+// offers again the apps whose halts are lifted (`halt_ends.rt`). Its reply is noted
+// (`load_notes.rt`), by which a status knows what an older server serves (`servers.rt`).
 //
 // A server's replies are its own. What is known of files is what `load` gathers.
 

@@ -6,7 +6,7 @@ use crate::halt_ends::{offer_others_at, resume_at};
 use crate::load_notes::read_notes;
 use crate::options::StageCall;
 use crate::outcome::Lines;
-use crate::server_loads::load_noted;
+use crate::server_loads::{Loaded, load_noted};
 use crate::serves::server_at;
 use crate::spared_servers::is_spared;
 use bounded_files::Disk;
@@ -29,12 +29,8 @@ fn is_left_out<R, D, F>(
 where
     F: StageFolder,
 {
-    let apps = match collected {
-        Some(collected) => collected.sources.apps.as_slice(),
-        None => &[],
-    };
     match server_at(call.servers, port) {
-        Some(server) => is_spared(call, folder, server, action, apps, lines),
+        Some(server) => is_spared(call, folder, server, action, collected, lines),
         None => false,
     }
 }
@@ -53,6 +49,7 @@ struct Loads {
 fn offered_at<R>(
     rt: &R,
     port: u16,
+    loaded: &Loaded,
     action: &StageAction<'_>,
     lifted: &[String],
     lines: &mut Lines,
@@ -62,7 +59,7 @@ where
 {
     match *action {
         StageAction::HaltRelease { appid, .. } => offer_others_at(rt, port, appid, lines),
-        _ => resume_at(rt, port, lifted, lines),
+        _ => resume_at(rt, port, loaded.halted.as_deref(), lifted, lines),
     }
 }
 
@@ -93,7 +90,7 @@ fn push_stays(stderr: &mut TextBuffer, action: &StageAction<'_>) {
 }
 
 // Has each server load the manifest, notes the loads, and then has it offer these apps again. If
-// the notes can't be written, a status only doesn't know of these loads.
+// the notes can't be written, a status and the next action don't know of these loads.
 fn load_each<R, D, F>(
     call: &StageCall<'_, R, D>,
     folder: &F,
@@ -114,8 +111,8 @@ where
     for port in call.options.ports() {
         if is_left_out(call, folder, *port, collected, action, lines) {
             has_left_out = true;
-        } else if load_noted(call, *port, collected, &mut notes, lines) {
-            are_resumed = offered_at(call.rt, *port, action, lifted, lines) && are_resumed;
+        } else if let Some(loaded) = load_noted(call, *port, collected, &mut notes, lines) {
+            are_resumed = offered_at(call.rt, *port, &loaded, action, lifted, lines) && are_resumed;
         } else {
             refused.push_number(" ", *port as u64, "");
         }
@@ -131,8 +128,8 @@ where
     })
 }
 
-/// Has each server load the manifest, whatever the others do, and then offer these apps again,
-/// whose halts are lifted. Returns whether all did.
+/// Has each server load the manifest, whatever the others do, but for one that is spared, and then
+/// offer these apps again, whose halts are lifted. Returns whether all did, or none is to load.
 // open: what a server does, and what is printed or noted: bench/outside.
 pub fn load_all<R, D, F>(
     call: &StageCall<'_, R, D>,

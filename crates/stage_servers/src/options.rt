@@ -1,5 +1,8 @@
 //! How `stage` does an action in the folder of a manifest, and with what.
 
+ghost use Rattle.std.specs.Prelude.{◌≡◌};
+ghost use Rattle.stage_servers.specs.Ports.{ports_of};
+
 use crate::serves::Surveyed;
 
 /// How an action is done.
@@ -30,12 +33,13 @@ const DEFAULT_PORTS: [u16; 1] = [8081];
 
 impl<'a> StageOptions<'a> {
     /// The operator's ports of the servers.
-    // open: which these are: rows.
-    pub fn ports(&self) -> &[u16] {
-        if self.operators.is_empty() {
-            return &DEFAULT_PORTS;
+    pub fn ports(&self) -> &[u16]
+        ensures { result.now ≡ ports_of self.now }
+    {
+        match self.operators {
+            [] => &DEFAULT_PORTS,
+            [_, ..] => self.operators,
         }
-        self.operators
     }
 }
 

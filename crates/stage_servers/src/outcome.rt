@@ -33,7 +33,7 @@ const RESTARTS: &str = ", over a restart only with --counters: mend this, and ca
 /// Why nothing more is done.
 #[derive(Drop)]
 pub enum Stop {
-    /// Before anything was changed, for this reason.
+    /// Before a file or a record was changed, for this reason; a halt may have reached servers.
     Refused(String),
     /// After something may have been changed: what happened, and what to do.
     Failed(String),
@@ -140,11 +140,11 @@ impl Lines {
         self.stderr.push(RESTARTS);
     }
 
-    /// Continues in spite of a refusal, if `--anyway` is given.
-    pub fn go_on_if(&mut self, anyway: bool, refusal: Stop) -> Result<(), Stop>
-        ensures { OnOk result (anyway ≡ true) }
+    /// Continues in spite of a refusal, if an option says so. Memory running out isn't passed over.
+    pub fn go_on_if(&mut self, may: bool, refusal: Stop) -> Result<(), Stop>
+        ensures { OnOk result (may ≡ true) }
     {
-        if !anyway {
+        if !may {
             return Err(refusal);
         }
         match refusal {

@@ -62,7 +62,7 @@ pub fn halted_release<'a>(
     last
 }
 
-/// Adds a line of each halted release of an app, which its file doesn't offer.
+/// Adds a line of each halted release of an app, which its file doesn't surely offer.
 pub(crate) fn push_releases(
     standing: &Standing<'_>,
     app: &AppSources,

@@ -11,7 +11,8 @@ pub(crate) struct InPlace {
 }
 
 /// What a server serves: what is in place, other apps, or other rules or programs for these apps.
-/// If its last load wasn't by `stage`, or it was started since, only its apps are known.
+/// If its last load has another generation than the noted one, only its apps are known; a restarted
+/// server may have the same one again.
 #[derive(Clone, Copy)]
 pub(crate) enum Served {
     InPlace,

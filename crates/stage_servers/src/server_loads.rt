@@ -38,27 +38,44 @@ pub(crate) fn push_fault(text: &mut TextBuffer, port: u16, fault: RequestFault, 
     drop(fault);
 }
 
-// Adds the apps that the server at a port halts now, by its state, or else as it was surveyed.
-fn push_halts<R, D>(call: &StageCall<'_, R, D>, port: u16, text: &mut TextBuffer)
+/// A server that loaded the manifest.
+#[derive(Drop)]
+pub(crate) struct Loaded {
+    reply: String,
+    /// The apps that it halts by its own word since then; None if it doesn't reply `state`.
+    pub(crate) halted: Option<Vec<String>>,
+}
+
+// The apps that the server at a port halts now, by its state.
+fn halted_at<R>(rt: &R, port: u16) -> Option<Vec<String>>
 where
     R: AllocGlobal + Net<Stream = TcpStream>,
 {
-    match ask_server(call.rt, OperatorRequest::State, port) {
-        Ok(reply) => match halted_in(call.rt.alloc(), reply.as_str()) {
-            Ok(halted) => push_halted(text, &halted),
-            Err(_) => text.leave_out(),
-        },
+    match ask_server(rt, OperatorRequest::State, port) {
+        Ok(reply) => halted_in(rt.alloc(), reply.as_str()).ok(),
         Err(fault) => {
             drop(fault);
-            if let Some(server) = server_at(call.servers, port) {
-                push_halted(text, &server.halted);
-            }
+            None
         }
     }
 }
 
-// Has the server at a port load the manifest. Returns its reply, if it did.
-fn load_at<R, D>(call: &StageCall<'_, R, D>, port: u16, lines: &mut Lines) -> Option<String>
+// Adds these apps, or else those that the server halted when it was surveyed.
+fn push_halts<R, D>(
+    call: &StageCall<'_, R, D>,
+    port: u16,
+    halted: Option<&[String]>,
+    text: &mut TextBuffer,
+) {
+    if let Some(halted) = halted {
+        push_halted(text, halted);
+    } else if let Some(server) = server_at(call.servers, port) {
+        push_halted(text, &server.halted);
+    }
+}
+
+// Has the server at a port load the manifest, if it does.
+fn load_at<R, D>(call: &StageCall<'_, R, D>, port: u16, lines: &mut Lines) -> Option<Loaded>
 where
     R: AllocGlobal + Net<Stream = TcpStream>,
 {
@@ -66,9 +83,10 @@ where
         Ok(reply) => {
             lines.text.push_number("server at ", port as u64, ": ");
             lines.text.push(reply.as_str().trim_end());
-            push_halts(call, port, &mut lines.text);
+            let halted = halted_at(call.rt, port);
+            push_halts(call, port, halted.as_deref(), &mut lines.text);
             lines.text.push("\n");
-            Some(reply)
+            Some(Loaded { reply, halted })
         }
         Err(fault) => {
             push_fault(&mut lines.stderr, port, fault, call.manifest);
@@ -96,28 +114,32 @@ fn notes_after(
 }
 
 /// Has the server at a port load the manifest, adds which apps it no longer has, and notes this
-/// load. Returns whether it loaded.
+/// load.
 pub(crate) fn load_noted<R, D>(
     call: &StageCall<'_, R, D>,
     port: u16,
     collected: Option<&CollectedManifest>,
     notes: &mut String,
     lines: &mut Lines,
-) -> bool
+) -> Option<Loaded>
 where
     R: AllocGlobal + Net<Stream = TcpStream>,
 {
     let shown = apps_shown(call.rt, port);
-    let Some(reply) = load_at(call, port, lines) else {
-        return false;
-    };
+    let loaded = load_at(call, port, lines)?;
     if let Some(collected) = collected {
         let (alloc, apps) = (call.rt.alloc(), &collected.sources.apps);
         push_removed(&mut lines.stderr, port, shown.as_str(), apps);
-        match notes_after(alloc, port, collected, reply.as_str(), notes.as_str()) {
+        match notes_after(
+            alloc,
+            port,
+            collected,
+            loaded.reply.as_str(),
+            notes.as_str(),
+        ) {
             Ok(text) => *notes = text,
             Err(_) => lines.stderr.leave_out(),
         }
     }
-    true
+    Some(loaded)
 }

@@ -1,5 +1,10 @@
 //! The reply of a server to `state`, by its lines.
 
+ghost use Rattle.std.specs.Prelude.{◌≡◌, IfOk, IfSome, Some, codes};
+ghost use Rattle.std.specs.Str.Lines.{lines};
+ghost use Rattle.server_replies.specs.Replies as specs;
+
+use server_replies::{first_after, lines_of, text_after};
 use std::alloc::{AllocError, Global};
 
 /// What a server says that it serves.
@@ -12,19 +17,28 @@ pub(crate) struct ServerState<'a> {
 }
 
 /// The state in a reply; None if it hasn't its lines.
-pub(crate) fn state_in(reply: &str) -> Option<ServerState<'_>> {
-    let mut lines = reply.lines();
-    let _generation = lines.next()?;
-    let digest = lines.next()?.strip_prefix("digest ")?;
-    let loaded = lines.next()?.strip_prefix("loaded ")?;
-    Some(ServerState { digest, loaded })
+pub(crate) fn state_in<'a>(
+    alloc: Global,
+    reply: &'a str,
+) -> Result<Option<ServerState<'a>>, AllocError>
+    ensures { IfOk result (λ found. IfSome found (λ state.
+        Some state.digest.now ≡ specs.first_after (codes "digest") (lines reply.now))) }
+{
+    let lines = lines_of(alloc, reply)?;
+    let digest = first_after("digest", &lines);
+    let loaded = first_after("loaded", &lines);
+    match (digest, loaded) {
+        (Some(digest), Some(loaded)) => Ok(Some(ServerState { digest, loaded })),
+        (Some(_), None) => Ok(None),
+        (None, _) => Ok(None),
+    }
 }
 
 /// The apps that a server halts by its own word, by its reply.
 pub(crate) fn halted_in(alloc: Global, reply: &str) -> Result<Vec<String>, AllocError> {
     let mut halted = Vec::new(alloc);
     for line in reply.lines() {
-        if let Some(appid) = line.strip_prefix("halted ") {
+        if let Some(appid) = text_after("halted", line) {
             halted.push(String::from_str(alloc, appid)?)?;
         }
     }

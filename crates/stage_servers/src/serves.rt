@@ -16,17 +16,19 @@ pub enum Serves {
     /// What is in place.
     InPlace,
     /// What a step left, with this digest; step 0 is before the first one. `later` steps are done
-    /// after it, and these are the files of all steps, with the bytes that they then had.
+    /// after it, and these are the files of the steps that aren't undone, with the bytes that they
+    /// then had.
     Step {
         number: u32,
         later: usize,
         files: Vec<ReplacedFile>,
         digest: [u8; 32],
     },
-    /// What `stage` loaded there last, of a step that is undone.
-    Undone,
+    /// What `stage` loaded there last, and no step left that isn't undone.
+    LastLoaded,
     /// Something else, from this time and path. If it has an app that is neither in place nor in
-    /// the next manifest, it is another server.
+    /// the next manifest, it is another server. If the manifest in place can't be gathered, each
+    /// of its apps counts as such.
     Other {
         loaded: String,
         strange: Option<String>,

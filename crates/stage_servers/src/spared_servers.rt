@@ -9,7 +9,7 @@ use crate::halted_app::halted_appid;
 use crate::options::StageCall;
 use crate::outcome::Lines;
 use crate::serves::{Serves, Surveyed};
-use load::AppSources;
+use load::{CollectedManifest, digest_of};
 use printing::TextBuffer;
 use stage_folder::StageFolder;
 use stage_records::{ReplacedFile, StageAction};
@@ -22,9 +22,18 @@ fn is_same<F: StageFolder>(folder: &F, file: &ReplacedFile) -> bool {
     }
 }
 
-// Whether loading what is in place changes more at a server than this one file.
-fn changes_more<F: StageFolder>(folder: &F, serves: &Serves, own: &str) -> bool {
-    match serves {
+// Whether loading what is in place, of this digest, may change more at a server than this one file.
+// One of which nothing is known counts as no.
+fn changes_more<F: StageFolder>(
+    folder: &F,
+    server: &Surveyed,
+    digest: Option<[u8; 32]>,
+    own: &str,
+) -> bool {
+    if digest.is_some() && server.digest == digest {
+        return false;
+    }
+    match &server.serves {
         Serves::Step { files, .. } => {
             for file in files {
                 if file.name.as_str() != own && !is_same(folder, file) {
@@ -33,8 +42,19 @@ fn changes_more<F: StageFolder>(folder: &F, serves: &Serves, own: &str) -> bool 
             }
             false
         }
-        Serves::Undone | Serves::Other { .. } => true,
+        Serves::LastLoaded | Serves::Other { .. } => true,
         Serves::InPlace | Serves::Unknown => false,
+    }
+}
+
+// The name of an app's file; empty without the app.
+fn file_of<'a>(collected: Option<&'a CollectedManifest>, appid: &str) -> &'a str {
+    let Some(manifest) = collected else {
+        return "";
+    };
+    match app_named(&manifest.sources.apps, appid) {
+        Some(app) => app.entry.source().file(),
+        None => "",
     }
 }
 
@@ -60,15 +80,15 @@ fn push_spared(stderr: &mut TextBuffer, server: &Surveyed, appid: &str) {
     stderr.push_printed("; ", appid, end);
 }
 
-/// Whether a server is left without a load of these apps, with a line that says why: another
-/// server, unless `--other-server` is given; and at a halt one at which loading would change more
-/// than that, unless `--anyway` is given.
+/// Whether a server is left without a load of what is in place, with a line that says why: another
+/// server, unless `--other-server` is given; and at a halt one that says what it serves, and at
+/// which loading may change more than that, unless `--anyway` is given.
 pub(crate) fn is_spared<R, D, F>(
     call: &StageCall<'_, R, D>,
     folder: &F,
     server: &Surveyed,
     action: &StageAction<'_>,
-    apps: &[AppSources],
+    collected: Option<&CollectedManifest>,
     lines: &mut Lines,
 ) -> bool
 where
@@ -83,11 +103,12 @@ where
     let Some(appid) = halted_appid(action) else {
         return false;
     };
-    let own = match app_named(apps, appid) {
-        Some(app) => app.entry.source().file(),
-        None => "",
+    let digest = match collected {
+        Some(manifest) => digest_of(&manifest.bytes, &manifest.sources.apps),
+        None => None,
     };
-    let is_spared = !call.options.anyway && changes_more(folder, &server.serves, own);
+    let own = file_of(collected, appid);
+    let is_spared = !call.options.anyway && changes_more(folder, server, digest, own);
     if is_spared {
         push_spared(&mut lines.stderr, server, appid);
     }

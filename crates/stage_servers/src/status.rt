@@ -9,7 +9,7 @@ ghost use Rattle.stage_servers.specs.Whole.{AreAsLeft, IsAsLeft, IsWhole};
 
 use crate::app_status::{Standing, push_apps};
 use crate::collected::collected_at;
-use crate::history::{are_none, push_steps, push_unread, state_of};
+use crate::history::{are_none, push_steps, push_unread};
 use crate::log_digest::push_log;
 use crate::options::StageCall;
 use crate::outcome::{Lines, Stop};
@@ -17,7 +17,7 @@ use crate::refusals::RECORDS;
 use crate::servers::push_servers;
 use bounded_files::Disk;
 use printing::TextBuffer;
-use stage_folder::{FolderFault, RecordedSteps, StageFolder, recorded_steps};
+use stage_folder::{FolderFault, RecordedSteps, StageFolder, recorded_steps, state_in};
 use stage_records::{FileState, ReplacedFile, StagingStep, last_step};
 use stage_text::now_of;
 use std::alloc::Global;
@@ -50,6 +50,7 @@ fn push_unread_file(number: u32, name: &str, fault: FolderFault, stderr: &mut Te
 
 // Adds a file that isn't as a step left it, or can't be read. Returns whether it is as the step
 // left it.
+#[tactic(auto, using(crate::proofs::Whole::as_left))]
 fn push_state<F: StageFolder>(
     folder: &F,
     number: u32,
@@ -59,7 +60,7 @@ fn push_state<F: StageFolder>(
     ensures { result ≡ true → IsAsLeft (F.files folder.now) file.now }
 {
     let name = file.name.as_str();
-    let state = match state_of(folder, file) {
+    let state = match state_in(folder, file) {
         Ok(state) => state,
         Err(fault) => {
             push_unread_file(number, name, fault, stderr);

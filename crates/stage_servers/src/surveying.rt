@@ -3,11 +3,12 @@
 
 // What a server replies is its own: bench/outside tests it.
 
-ghost use Rattle.std.specs.Prelude.{◌≡◌, ◌++◌, ◌∷◌, ℕ, List, [], All, IfOk, IfSome, OnOk};
-ghost use Rattle.std.specs.Prelude.{Option, Some, true};
+ghost use Rattle.std.specs.Prelude.{◌≡◌, ◌++◌, ◌∷◌, ℕ, List, [], IfOk, IfSome, OnOk};
+ghost use Rattle.std.specs.Prelude.{Option, Some, false, true};
 ghost use Rattle.bounded_files.specs.Files.{KnownFiles};
 ghost use Rattle.load.specs.Opened.{IsCollected};
 ghost use Rattle.stage_servers.specs.Drift.{IsServedBy, IsSurveyed};
+ghost use Rattle.stage_servers.specs.Ports.{AreSurveyed, ports_of};
 
 use crate::collected::app_named;
 use crate::load_notes::note_of;
@@ -52,7 +53,7 @@ where
     if let Some(note) = note_of(place.notes.as_str(), port)
         && note.digest == state.digest
     {
-        return Ok(Serves::Undone);
+        return Ok(Serves::LastLoaded);
     }
     let shown = apps_shown(rt, port);
     let strange = strange_app(alloc, shown.as_str(), place)?;
@@ -115,7 +116,7 @@ where
     ensures { IfOk result (λ reply. IsServedBy (D.known call.now.disk.now)
         call.now.manifest.now reply.digest reply.serves) }
 {
-    let Some(state) = state_in(lines) else {
+    let Some(state) = state_in(call.rt.alloc(), lines)? else {
         return Ok(Reply {
             digest: None,
             serves: Serves::Unknown,
@@ -144,7 +145,8 @@ where
     D: Disk,
     requires { IfSome place.now.present
         (IsCollected (D.known call.now.disk.now) call.now.manifest.now) }
-    ensures { IfOk result (IsSurveyed (D.known call.now.disk.now) call.now.manifest.now) }
+    ensures surveyed { IfOk result (IsSurveyed (D.known call.now.disk.now) call.now.manifest.now) }
+    ensures port { IfOk result (λ server. server.port ≡ port) }
 {
     let alloc = call.rt.alloc();
     let Ok(lines) = ask_server(call.rt, OperatorRequest::State, port) else {
@@ -177,25 +179,35 @@ fn push_surveyed(servers: &mut Vec<Surveyed>, server: Surveyed) -> Result<(), Al
     Ok(())
 }
 
-fn survey_each<R, D>(call: &StageCall<'_, R, D>, place: &Place) -> Result<Vec<Surveyed>, AllocError>
+// The servers at these ports.
+#[tactic(auto, using(crate::proofs::Ports::begins, crate::proofs::Ports::one_more))]
+fn survey_each<R, D>(
+    call: &StageCall<'_, R, D>,
+    place: &Place,
+    ports: &[u16],
+) -> Result<Vec<Surveyed>, AllocError>
 where
     R: AllocGlobal + Net<Stream = TcpStream>,
     D: Disk,
     requires { IfSome place.now.present
         (IsCollected (D.known call.now.disk.now) call.now.manifest.now) }
-    ensures { IfOk result (λ servers.
-        All (IsSurveyed (D.known call.now.disk.now) call.now.manifest.now) servers.items) }
+    ensures { IfOk result (λ servers. AreSurveyed (D.known call.now.disk.now)
+        call.now.manifest.now ports.now [] servers.items) }
 {
     let mut servers = Vec::new(call.rt.alloc());
-    for port in call.options.ports() {
+    let mut left = ports;
+    while let [port, others @ ..] = left {
         let server = surveyed_at(call, *port, place)?;
         push_surveyed(&mut servers, server)?;
+        left = others;
     }
     Ok(servers)
 }
 
 /// What each server serves, before this action; none if no server is to load.
-// open: whether an allocation fails, its one error; what a server replies: bench/outside.
+// open: whether an allocation fails, its one error; what each server replies, which step that is,
+// and which apps it halts: bench/outside.
+#[tactic(auto, using(crate::proofs::Ports::surveyed))]
 pub fn survey<R, D, F>(
     call: &StageCall<'_, R, D>,
     folder: &F,
@@ -205,8 +217,9 @@ where
     R: AllocGlobal + Net<Stream = TcpStream>,
     D: Disk,
     F: StageFolder,
-    ensures surveyed { IfOk result (λ servers.
-        All (IsSurveyed (D.known call.now.disk.now) call.now.manifest.now) servers.items) }
+    ensures surveyed { IfOk result (λ servers. call.now.options.now.no_load ≡ false
+        → AreSurveyed (D.known call.now.disk.now) call.now.manifest.now
+        (ports_of call.now.options.now) [] servers.items) }
     ensures none { IfOk result (λ servers.
         call.now.options.now.no_load ≡ true → servers.items ≡ []) }
 {
@@ -215,7 +228,7 @@ where
     }
     match place_of(call, folder, action) {
         Ok(place) => {
-            let servers = survey_each(call, &place);
+            let servers = survey_each(call, &place, call.options.ports());
             drop(place);
             servers
         }

@@ -1,7 +1,10 @@
-use Rattle.std.specs.Prelude.{All}
-use Rattle.stage_servers.specs.Drift.{IsSurveyed}
+use Rattle.std.proofs.Common.{length}
+use Rattle.stage_servers.specs.Ports.{AreSurveyed}
 use Rattle.stage_servers.proofs.surveying.survey_each.Given as goal
 
-abbrev pub invariant-loop-port : goal.invariant-loop-port
-invariant-loop-port g l =
-    All (IsSurveyed (g.D.Disk.known l.call.disk.now) l.call.manifest.now) l.servers.items
+abbrev pub invariant-loop-left : goal.invariant-loop-left
+invariant-loop-left g l = AreSurveyed (g.D.Disk.known l.call.disk.now) l.call.manifest.now
+    l.ports l.left l.servers.items
+
+abbrev pub decreases-loop-left : goal.decreases-loop-left
+decreases-loop-left g l = length l.left
