@@ -6,5 +6,5 @@ pub returns : goal.returns
 returns c =
     let lines = map (λ line. line.now) c.args.lines.now in
     state_put lines _ _ _ _ _ _ _ _ c.word_in.ensures c.word_in-2.ensures c.word_in-3.ensures
-    c.path_in.ensures c.in_ok-push_generation.ensures c.in_ok-push_ruleset.ensures
+    c.path_of_load.ensures c.in_ok-push_generation.ensures c.in_ok-push_ruleset.ensures
     c.in_ok-push_halted.ensures
