@@ -3,7 +3,7 @@ use Rattle.std.proofs.Common.{◌≡◌, ◌∙◌, sym, ap, subst, refl, ℕ, L
 use Rattle.std.specs.Prelude.{◌++◌, All, IfSome, option_map}
 use Rattle.cells.specs.Arrays.{AppShape, IsShape}
 use Rattle.cells.specs.declared.array.CellArray.{CellArray}
-use Rattle.diff_text.specs.Shown.{AreShown, Sources}
+use Rattle.diff_text.specs.Shown.{AreShown, RowSources}
 use Rattle.diff_text.specs.declared.shown.AppRows.{AppRows}
 use Rattle.load.specs.declared.judged.JudgedApp.{JudgedApp}
 use Rattle.releases.specs.Release.{Release}
@@ -53,7 +53,7 @@ side_of_none releases shape contents side none no_arrays empty is kept = record 
 }
 
 abbrev sources : (all : List Release) → (old_contents new_contents : List ℕ)
-    → (old_arrays new_arrays : List CellArray) → Sources
+    → (old_arrays new_arrays : List CellArray) → RowSources
 sources all old_contents new_contents old_arrays new_arrays = record {
   all = all;
   old_contents = old_contents;
@@ -101,7 +101,7 @@ shows_rows x old new old_side new_side space rows releases others c arrays more 
         new_is = new_is;
         is_diff = is;
       };
-      are_shown = subst (λ (from : Sources). AreShown x space.dimensions from rows shown.rows.items)
+      are_shown = subst (λ (from : RowSources). AreShown x space.dimensions from rows shown.rows.items)
           (sources_are old new releases others c arrays more r s has a b) are;
     }
 

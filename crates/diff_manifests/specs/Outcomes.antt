@@ -7,7 +7,7 @@ use Rattle.diff_rules.specs.Rows.{IsDiff, DiffRow}
 use Rattle.diff_space.specs.Machines.{Side}
 use Rattle.diff_space.specs.Scopes.{Scope}
 use Rattle.diff_space.specs.Spaces.{Space}
-use Rattle.diff_text.specs.Shown.{AreShown, Sources, some_shown_lost}
+use Rattle.diff_text.specs.Shown.{AreShown, RowSources, some_shown_lost}
 use Rattle.diff_text.specs.declared.shown.AppRows.{AppRows}
 use Rattle.diff_manifests.specs.Apps.{IsSameApp, contents_in, releases_in}
 use Rattle.diff_manifests.specs.Sides.{IsSideBy}
@@ -43,7 +43,7 @@ arrays_or_none (Some app) = app.program.shape.arrays
 arrays_or_none None = []
 
 -- what an app's rows are shown with: releases, contents and arrays
-abbrev pub sources_of : (old new : Option JudgedApp) → Sources
+abbrev pub sources_of : (old new : Option JudgedApp) → RowSources
 sources_of old new = record {
   all = releases_in old new;
   old_contents = contents_in (releases_in old new) old;
