@@ -16,6 +16,9 @@ use operator_request::OperatorRequest;
 use server_replies::{ServerFacts, ServerReplies};
 use std::net::{Net, TcpStream};
 
+/// How an older server refuses a word that it doesn't know.
+const UNKNOWN_WORD: &str = "B1 Word";
+
 /// What a server replied.
 #[derive(Drop)]
 pub(crate) struct FoundServer {
@@ -39,6 +42,8 @@ where
     R: AllocGlobal + Net<Stream = TcpStream>,
     ensures found { IfOk result (λ found.
         specs.IsFound args.now args.now.operator (option_map specs.found_replies found)) }
+    ensures port { IfOk result (λ found. option_map (λ server. server.port) found
+        ≡ args.now.operator) }
     ensures fault { (known : KnownFiles)
         → IfErr result (IsRefused known (ToolCommand.Report args.now)) }
 {
@@ -79,7 +84,7 @@ where
     }
 }
 
-// The replies to `state` and to `cells`; none if the server doesn't reply.
+// The replies to `state` and to `cells`; none if the server doesn't reply, or refuses.
 fn replies_at<R>(rt: &R, port: u16) -> Result<Option<FoundReplies>, ResourceFault>
 where
     R: AllocGlobal + Net<Stream = TcpStream>,
@@ -88,7 +93,15 @@ where
 {
     match ask_server(rt, OperatorRequest::State, port) {
         Ok(state) => with_cells(rt, port, Some(state)),
-        Err(RequestFault::Refused(_words)) => with_cells(rt, port, None),
+        Err(RequestFault::Refused(words)) => {
+            let is_older = words.as_str() == UNKNOWN_WORD;
+            drop(words);
+            if is_older {
+                with_cells(rt, port, None)
+            } else {
+                Ok(None)
+            }
+        }
         Err(RequestFault::Memory) => Err(ResourceFault::Memory),
         Err(_) => Ok(None),
     }
@@ -113,8 +126,10 @@ where
 }
 
 /// What a server says.
-pub(crate) fn facts_of<'a>(found: &'a Option<FoundServer>) -> Option<ServerFacts<'a>>
-    ensures { said.said_by result ≡ option_map specs.found_replies found.now }
+pub(crate) fn server_facts<'a>(found: &'a Option<FoundServer>) -> Option<ServerFacts<'a>>
+    ensures said { said.said_by result ≡ option_map specs.found_replies found.now }
+    ensures port { option_map (λ server. server.port) result
+        ≡ option_map (λ server. server.port) found.now }
 {
     match found {
         Some(FoundServer { port, replies }) => Some(ServerFacts {
@@ -130,14 +145,14 @@ fn replies_of<'a>(found: &'a Option<FoundReplies>) -> Option<ServerReplies<'a>>
 {
     match found {
         Some(FoundReplies { state, cells }) => Some(ServerReplies {
-            state: text_of(state),
+            state: lent(state),
             cells: cells.as_str(),
         }),
         None => None,
     }
 }
 
-fn text_of<'a>(text: &'a Option<String>) -> Option<&'a str>
+fn lent<'a>(text: &'a Option<String>) -> Option<&'a str>
     ensures { option_copied result ≡ option_map string_bytes text.now }
 {
     match text {

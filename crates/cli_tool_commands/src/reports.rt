@@ -6,7 +6,7 @@ ghost use Rattle.bounded_files.specs.Files.{KnownFiles};
 ghost use Rattle.cli_tool_commands.specs.Outputs.{IsOutput, IsRefused};
 ghost use Rattle.cli_tool_commands.specs.Servers.{HasServer};
 
-use crate::found_server::{facts_of, found_server};
+use crate::found_server::{found_server, server_facts};
 use crate::output::ToolOutput;
 use crate::tool_fault::Fault;
 use bounded_files::{Disk, ResourceFault};
@@ -53,7 +53,7 @@ where
         Ok(found) => found,
         Err(fault) => return Err(fault),
     };
-    let facts = facts_of(&found);
+    let facts = server_facts(&found);
     let Ok(server) = server_text(rt.alloc(), args.prometheus, args.heads, facts) else {
         return Err(Fault::Resource(ResourceFault::Memory));
     };
