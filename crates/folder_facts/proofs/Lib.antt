@@ -1,2 +1,2 @@
 pub mod AllRead
-pub mod Quotas
+pub mod CellQuotas

@@ -53,7 +53,7 @@ fn push_quota(
 }
 
 // The quota of a cell, if its array is declared with one, and has the cell.
-#[tactic(auto, using(crate::proofs::Quotas::quota_found))]
+#[tactic(auto, using(crate::proofs::CellQuotas::quota_found))]
 fn quota_in(
     alloc: Global,
     arrays: &[ArrayDeclaration],
