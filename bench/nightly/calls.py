@@ -8,6 +8,8 @@ STOPS = {
              r"isn't as step \d+ left it",
     "record": r"is no record of",
     "app": r"has no app",
+    "version": r"has no release",
+    "whole": r"halts the whole app already",
     "shared": r"is the file of app",
     "halted": r"it halts the app",
     "test": r"it has (no|several) tests?|program",
@@ -32,9 +34,14 @@ class Step:
     after: dict
     by: str
     because: str
+    # Of a halt of one release.
+    version: str = ""
     is_undone: bool = False
     # Whether its record can be read.
     is_damaged: bool = False
+
+    def is_halt(self):
+        return self.action.startswith("halt ")
 
     def line(self, has_stopped):
         """How `status` and `history` print it, but for its time."""
@@ -56,6 +63,8 @@ class Call:
     word: str
     appid: str = ""
     share: str = ""
+    # Of a halt of one release.
+    version: str = ""
     source: dict = field(default_factory=dict)
     path: str = ""
     servers: list = field(default_factory=list)
@@ -65,13 +74,15 @@ class Call:
     other_server: bool = False
     by: str = "anna"
     because: str = ""
+    # The servers that this halt has halted, and that had no halt of the app before.
+    halted: list = field(default_factory=list)
 
     def words(self):
         given = {"put": self.path, "back": ""}.get(self.word, self.appid)
         options = {"--anyway": self.anyway, "--dry-run": self.dry_run, "--no-load": self.no_load}
         options["--other-server"] = self.other_server
         words = ["stage", self.word, *([given] if given else [])]
-        words += [self.share] if self.share else []
+        words += [it for it in (self.share, self.version) if it]
         words += [it for it, is_given in options.items() if is_given]
         words += [f"--operator={it.operator}" for it in self.servers] + ["--by", self.by]
         return words + (["--because", self.because] if self.because else [])
@@ -83,4 +94,5 @@ class Call:
         """How its step is printed."""
         if self.word in ("raise", "resume") and self.share:
             return f"{self.word} {self.appid} {self.buckets()}"
-        return f"{self.word} {self.path or self.appid}"
+        words = self.word, self.path or self.appid, self.version
+        return " ".join(it for it in words if it)

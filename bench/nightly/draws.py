@@ -1,6 +1,6 @@
 """What operators do, drawn at random: manifests, rules, calls of `stage`."""
 from nightly.calls import Call
-from nightly.rules import NOTHING, PROGRAMS, App, manifest, rule
+from nightly.rules import NOTHING, PROGRAMS, RELEASES, App, manifest, rule
 
 SHARES = ("1%", "100", "5%", "500", "10%", "2500", "50%", "10000")
 EDITOR, TOOL = App("editor", "editor.rule"), App("tool", "tool.rule")
@@ -61,13 +61,15 @@ def draw_call(night):
     load = night.load_without_faults()
     apps = load.appids() if load else ["editor"]
     word = chance.choice(WORDS)
-    halted = [it.action[5:] for it in night.steps if it.action.startswith("halt ")]
+    halted = [it.appid for it in night.steps if it.is_halt()]
     it = Call(word, by=chance.choice(("anna", "ben")))
     if word in ("raise", "halt", "resume"):
         likely = halted if word == "resume" and halted else apps
         it.appid = chance.choice(likely) if chance.random() < 0.95 else "nobody"
     if word == "raise" or word == "resume" and chance.random() < 0.5:
         it.share = chance.choice(SHARES)
+    if word == "halt" and chance.random() < 0.35:
+        it.version = chance.choice((*RELEASES, *RELEASES, "3.0.0"))
     if word == "put":
         draw_source(night, it)
     it.servers = list(night.servers)

@@ -4,9 +4,13 @@ import re
 
 from nightly.calls import STOPS
 from nightly.night import KEPT, UNCHANGED
-from nightly.plans import is_other, known_apps, plan_of
+from nightly.plans import plan_of
 from nightly.rows import untrue_rows
+from nightly.served import is_other, known_apps, untrue_words
 from nightly.servers import generations
+
+# What is printed of a halt from before that of a release, which doesn't end it.
+EARLIER = "was halted there before"
 
 
 def expect(night, call, said, is_loose=False):
@@ -16,6 +20,8 @@ def expect(night, call, said, is_loose=False):
     plan = plan_of(night, call)
     has_stopped = UNCHANGED in errors or KEPT in errors
     yield from untrue_rows(night, plan, call, output)
+    if not is_loose:
+        yield from untrue_words(night, errors)
     lines, missing = ([], []) if is_loose else halt_servers(night, call, errors)
     yield from missing
     if plan.stops and not has_stopped:
@@ -34,7 +40,7 @@ def expect(night, call, said, is_loose=False):
             take(night, plan)
         more, is_bad = load_servers(night, call, plan, known, output)
         lines += more
-    printed = [it for it in output.splitlines() if it.startswith("server at")]
+    printed = [it for it in output.splitlines() if it.startswith("server at") and EARLIER not in it]
     if not is_loose and printed != lines:
         yield f"servers: {printed}, not {lines}"
     if not is_loose and status != (1 if is_bad else 0):
@@ -84,7 +90,7 @@ def take(night, plan):
 
 def halt_servers(night, call, errors):
     """The lines of a halt's servers, which come first; and what is missing among the errors."""
-    lines, missing = [], []
+    lines, missing, call.halted = [], [], []
     if call.word != "halt" or call.no_load or call.dry_run:
         return lines, missing
     for it in call.servers:
@@ -97,6 +103,7 @@ def halt_servers(night, call, errors):
                 missing.append(f"{it.operator} has no app {call.appid}")
         else:
             if call.appid not in it.halts:
+                call.halted.append(it)
                 it.halts.insert(0, call.appid)
                 it.generation += 1
             lines.append(f"{place}: generation {it.generation}, {call.appid} is halted")
@@ -120,7 +127,7 @@ def is_loaded(night, call, plan, known, server, output):
         return True
     loads = [it for it in (plan.now, plan.then) if it]
     if any(it.is_but_for(call.appid, server.load) for it in loads):
-        return len(generations(output, server.operator)) == 2
+        return len(generations(output, server.operator)) > 1
     return False
 
 
@@ -135,8 +142,13 @@ def load_servers(night, call, plan, known, output):
         it.generation += 1
         more = f", halted: {', '.join(it.halts)}" if it.halts else ""
         lines.append(f"server at {it.operator}: generation {it.generation}{more}")
-        maybe = [it for it in plan.maybe_lifted if f", {it} is offered again\n" in output]
-        for app in (*plan.lifted, *maybe):
+        lifted = list(plan.lifted)
+        lifted += [it for it in plan.maybe_lifted if f", {it} is offered again\n" in output]
+        if call.version and it in call.halted:
+            lifted.append(call.appid)
+        elif call.version and call.appid in it.halts and EARLIER not in output:
+            lines.append(f"{call.appid} {EARLIER} at {it.operator}")
+        for app in dict.fromkeys(lifted):
             more = f", {app} is offered again"
             if app in it.halts:
                 it.halts.remove(app)

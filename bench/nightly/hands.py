@@ -4,6 +4,7 @@ import json
 from nightly.draws import draw_file, draw_manifest, put_elsewhere
 from nightly.night import NUMBERED
 from nightly.rules import NOTHING, load_of
+from nightly.served import untrue_words
 from nightly.servers import run
 
 BAD = {"rule": b"no rule\n", "program": b"12345"}
@@ -25,6 +26,8 @@ def looks(night):
             night.wrong(f"status: {'no' if is_served else 'untrue'} {line}")
     if any(it.is_damaged for it in night.steps):
         return
+    for text in untrue_words(night, output + errors):
+        night.wrong(text)
     is_as_left = night.is_as_left()
     if status != (0 if is_same and is_as_left else 1):
         night.wrong(f"status: {status}, though served is what is in place: {is_same}, "
@@ -151,8 +154,8 @@ def damages(night):
     older = json.loads(step.kept)
     for name in ("user", "because", "version"):
         older.pop(name, None)
-    if "resume" in older["action"]:
-        return night.tell("older versions know no resume")
+    if {"resume", "halt_release"} & {*older["action"]}:
+        return night.tell("older versions know no such step")
     path.write_text(json.dumps(older, separators=(",", ":")) + "\n")
     step.by = step.because = ""
     return night.tell(f"record {step.number} is as an older version wrote it")

@@ -13,15 +13,14 @@ from nightly.servers import run
 NUMBERED = re.compile(r"^(\w+ step \d+ of) \S+?( by [^:]*)?: (.*)$", re.M)
 AT_WORK = "another `rollout stage` is at work here"
 UNCHANGED, KEPT = "nothing has changed", "no file has changed"
-# Seconds after which a call of `stage` is killed.
-PATIENCE = 60
 
 
 def step_in(record):
     """What a record of a step has, besides its time."""
     (word, what), = record["action"].items()
-    if word in ("raise", "resume"):
-        what = " ".join([what["appid"], *([str(what["buckets"])] if "buckets" in what else [])])
+    if isinstance(what, dict):
+        more = (str(what[it]) for it in ("buckets", "version") if it in what)
+        word, what = word.removesuffix("_release"), " ".join([what["appid"], *more])
     files = [(it["name"], it["before"], it["after"]) for it in record["files"]]
     texts = record.get("user", ""), record.get("because", "")
     return record["number"], f"{word} {what}", *texts, record["undone"], files

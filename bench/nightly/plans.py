@@ -3,7 +3,10 @@ replaces, which step it records, which halts it lifts, and which stops are right
 from dataclasses import dataclass, field
 
 from nightly.calls import Step
-from nightly.rules import KNOWN, NOTHING, load_of, loses, with_share
+from nightly.rules import (
+    NOTHING, RELEASES, choice, load_of, loses, offers, with_share, without,
+)
+from nightly.served import is_other, known_apps, left_by_steps
 
 
 @dataclass
@@ -24,13 +27,36 @@ class Plan:
     then: object = None
 
 
-def is_in_force(night, appid, file):
+def having(night, file):
+    """The steps that replaced a file and aren't undone."""
+    return [it for it in night.steps if not it.is_undone and file in it.after]
+
+
+def is_in_force(night, appid, file, or_of_a_release=False):
     """Whether the last step that has this file is a halt of the app, and the file halts it still;
     None if a halt was overwritten by hand."""
-    having = [it for it in night.steps if not it.is_undone and file in it.after]
-    if not having or having[-1].action != f"halt {appid}":
+    last = (having(night, file) or [None])[-1]
+    if not last or not last.is_halt() or last.appid != appid:
         return False
-    return True if having[-1].after[file] == night.files.get(file) else None
+    if last.version and not or_of_a_release:
+        return False
+    return True if last.after[file] == night.files.get(file) else None
+
+
+def lifts_a_release(night, app, text):
+    """Whether a halt of one release of an app is lifted if its file has this text; None if that
+    halt may be over: somebody resumed the app or edited its file, or the release was offered
+    since."""
+    may, steps = False, having(night, app.file)
+    for place, step in enumerate(steps if text is not None else []):
+        if step.version and step.appid == app.appid and offers(text, step.version):
+            later = [(it.action, it.after[app.file]) for it in steps[place:]]
+            is_over = any(action.startswith("resume ") or offers(bytes_after, step.version)
+                          for action, bytes_after in later)
+            if not is_over and later[-1][1] == night.files.get(app.file):
+                return True
+            may = None
+    return may
 
 
 def may_be_in_force(night, app):
@@ -44,15 +70,6 @@ def app_in(load, appid):
     return next((it for it in load.apps if it.appid == appid), None)
 
 
-def left_by_steps(night):
-    """The files as the last step left them, whatever was edited since."""
-    files = dict(night.files)
-    for step in night.steps:
-        for name, bytes_after in (step.before if step.is_undone else step.after).items():
-            files[name] = bytes_after
-    return {name: text for name, text in files.items() if text is not None}
-
-
 def is_edited(night, call):
     """Whether a file isn't as the last step left it that replaced it. `back` looks at the files of
     the step that it undoes by itself."""
@@ -63,33 +80,6 @@ def is_edited(night, call):
                 return True
         seen |= set(step.after)
     return False
-
-
-def known_apps(night, plan):
-    """The apps in place before a call and after it."""
-    texts = [night.files.get("current.toml"), plan.files.get("current.toml")]
-    return {it.appid for text in texts for it in KNOWN.get(text, ())}
-
-
-def left_by_each(night):
-    """What was in place before the first step and after each, by the records of those that aren't
-    undone: a file is as the next step found it that has it, or else as the last one left it."""
-    done = [it for it in night.steps if not it.is_undone and not it.is_damaged]
-    for place in range(len(done) + 1):
-        files = dict(night.files)
-        for step in done[:place]:
-            files |= step.after
-        for step in reversed(done[place:]):
-            files |= step.before
-        yield load_of({name: text for name, text in files.items() if text is not None})
-
-
-def is_other(night, known, server):
-    """Whether a server has an app that isn't known in this folder, and serves what no step left;
-    None if a step left it that is undone, or before a file was edited that no step has."""
-    if not set(server.load.appids()) - known or server.load in left_by_each(night):
-        return False
-    return None if server.load in night.left else True
 
 
 def drifts(night, call, plan):
@@ -151,12 +141,35 @@ def loaded_file(night, call, plan):
     return app
 
 
+def plan_release_halt(night, call, plan):
+    if (app := loaded_file(night, call, plan)) is None:
+        return
+    text = night.files.get(app.file, b"")
+    if plan.now is None:
+        plan.perhaps.add("refused")
+    if call.version not in RELEASES:
+        plan.stops.add("version")
+    if app.kind == "program":
+        plan.stops.add("test")
+    elif choice("rule", text, "0", 0) is None:
+        plan.stops.add("refused")
+    elif text == NOTHING["rule"]:
+        # If no halt wrote it, no page says whether it counts as one.
+        is_whole = is_in_force(night, call.appid, app.file)
+        (plan.stops if is_whole else plan.perhaps).add("whole")
+    elif not plan.stops:
+        plan.files = {app.file: without(text, call.version)}
+
+
 def plan_halt(night, call, plan):
+    if call.version:
+        return plan_release_halt(night, call, plan)
     text = night.files.get("current.toml")
     if (app := loaded_file(night, call, plan)):
         plan.files = {app.file: NOTHING[app.kind]}
         if app.file not in night.files or text is None:
             plan.perhaps.add("refused")
+    return None
 
 
 def plan_raise(night, call, plan):
@@ -180,12 +193,15 @@ def plan_resume(night, call, plan):
         return
     if plan.now is None:
         plan.perhaps |= {"refused", "test"}
-    force = is_in_force(night, call.appid, app.file)
-    if not force:
+    force = is_in_force(night, call.appid, app.file, or_of_a_release=True)
+    last = (having(night, app.file) or [None])[-1]
+    if force is False or force is None and not last.version:
         plan.stops |= {"unhalted", "again"}
         return
-    having = [it for it in night.steps if not it.is_undone and app.file in it.after]
-    before = having[-1].before[app.file]
+    before = last.before[app.file]
+    if lifts_a_release(night, app, before) is not False:
+        # An earlier halt, of another release, may still count.
+        plan.perhaps.add("unhalted")
     if call.share and app.kind == "program":
         plan.stops.add("test")
         return
@@ -218,6 +234,13 @@ def plan_put(night, call, plan):
                 plan.stops.add("lifts")
         elif not call.anyway:
             plan.perhaps.add("lifts")
+    for app in present.apps if present else ():
+        after = app_in(load_of(call.source), app.appid)
+        may = lifts_a_release(night, app, plan.files[after.file]) if after else False
+        if may is not False:
+            plan.maybe_lifted.append(app.appid)
+            if not call.anyway:
+                (plan.stops if may and app.file == after.file else plan.perhaps).add("lifts")
     if plan.now is None and "current.toml" in night.files:
         plan.perhaps |= {"lost", "refused", "lifts"}
 
@@ -233,16 +256,20 @@ def plan_back(night, call, plan):
             # A dry run doesn't look at this; no page says that it does.
             (plan.perhaps if call.dry_run else plan.stops).add("edited")
     plan.undone, plan.files = step, dict(step.before)
-    if step.action.startswith("halt "):
+    if step.is_halt():
         # A halt that stopped before its file was replaced isn't in force.
         is_done = plan.files and any(night.files.get(n) == step.after[n] for n in plan.files)
-        (plan.lifted if is_done else plan.maybe_lifted).append(step.appid)
+        is_whole = is_done and not step.version
+        (plan.lifted if is_whole else plan.maybe_lifted).append(step.appid)
         if not call.anyway:
             (plan.stops if is_done else plan.perhaps).add("lifts")
     elif plan.now is None and not call.anyway:
         plan.perhaps.add("lifts")
     for app in plan.now.apps if plan.now else ():
         if app.file in step.before and app.appid not in plan.lifted and may_be_in_force(night, app):
+            plan.perhaps.add("lifts")
+            plan.maybe_lifted.append(app.appid)
+        if lifts_a_release(night, app, step.before.get(app.file)) is not False:
             plan.perhaps.add("lifts")
             plan.maybe_lifted.append(app.appid)
 
@@ -275,5 +302,5 @@ def plan_of(night, call):
         before = {it: night.files.get(it) for it in plan.files}
         number = max((it.number for it in night.steps), default=0) + 1
         plan.step = Step(number, call.action(), call.appid, before, dict(plan.files), call.by,
-                         call.because)
+                         call.because, call.version)
     return plan

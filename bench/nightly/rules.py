@@ -46,7 +46,7 @@ def choice(kind, text, version, bucket):
     if kind == "program":
         return PROGRAMS.get(text)
     *lines, last = text.decode().splitlines() or [""]
-    found = [LINE.fullmatch(it) for it in lines]
+    found = [LINE.fullmatch(it) for it in lines if it]
     if last != "otherwise none;" or None in found:
         return None
     return next((int(it[2]) for it in found if all_hold(it[1], version, bucket)), 0)
@@ -63,6 +63,18 @@ def with_share(text, buckets):
     if len(found) != 1:
         return None
     return ONE_BUCKET.sub(f"bucket < {buckets}", text.decode()).encode()
+
+
+def offers(text, version):
+    """Whether a statement of a rule offers a release of this version."""
+    found = LINE.findall(text.decode(errors="replace"))
+    return any(RELEASES[int(number) - 1] == version for _, number in found)
+
+
+def without(text, version):
+    """A rule without the statements that offer this version: only their line ends stay."""
+    lines = text.decode().splitlines(keepends=True)
+    return "".join("\n" if offers(it.encode(), version) else it for it in lines).encode()
 
 
 @dataclass(frozen=True)

@@ -7,8 +7,8 @@ import time
 
 from asking import Server, post, whole
 
-# Seconds until a halt has to be in the file of counters.
-COMMITTED = 5
+# Seconds until a halt has to be in the file of counters, and until a command has to end.
+COMMITTED, PATIENCE = 5, 90
 
 
 class Watched(Server):
@@ -105,7 +105,7 @@ class Watched(Server):
 
 def run(night, words, **how):
     """The status, output and errors of a command of a program of the night."""
-    done = subprocess.run(words, capture_output=True, timeout=90, cwd=night.room, **how)
+    done = subprocess.run(words, capture_output=True, timeout=PATIENCE, cwd=night.room, **how)
     return done.returncode, done.stdout.decode(), done.stderr.decode()
 
 

@@ -32,14 +32,17 @@ def put_of(night, **how):
     return Call("put", source=files, path=str(put_elsewhere(night, files)), **how)
 
 
-def call_of(word, appid="", share="", **how):
-    return lambda night: Call(word, appid, share, **how)
+def call_of(word, appid="", share="", version="", **how):
+    return lambda night: Call(word, appid, share, version, **how)
 
 
 # The calls before, and the call that is swept.
 SWEEPS = {
     "a halt": ([], call_of("halt", "editor")),
     "a halt beside another": ([call_of("halt", "editor")], call_of("halt", "agent")),
+    "a halt of a release": ([], call_of("halt", "editor", version="2.1")),
+    "back from a halt of a release": (
+        [call_of("halt", "editor", version="2.1")], call_of("back", anyway=True)),
     "the same halt": ([call_of("halt", "editor")], call_of("halt", "editor")),
     "a raise beside a halt": ([call_of("halt", "editor")], call_of("raise", "tool", "50%")),
     "a put": ([], put_of),

@@ -11,6 +11,7 @@ from nightly.draws import draw_call
 from nightly.expectations import expect, halt_servers
 from nightly.night import AT_WORK, KEPT, UNCHANGED
 from nightly.plans import plan_of
+from nightly.served import untrue_words
 
 # Calls of the system at which a call of `stage` is killed or refused, and by which errors.
 ERRORS = {
@@ -30,6 +31,8 @@ def settle(night, call, said, is_killed):
     oracle knows what there is."""
     status, output, errors = said
     plan, found = plan_of(night, call), night.found()
+    for text in untrue_words(night, errors):
+        night.wrong(text)
     leavings = [it for it in found if it.endswith(".new")]
     for it in leavings:
         if not is_killed:
