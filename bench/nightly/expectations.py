@@ -112,7 +112,8 @@ def halt_servers(night, call, errors):
 
 def is_loaded(night, call, plan, known, server, output):
     """Whether a server is loaded after the files were replaced. A halt leaves one alone that serves
-    something else than is in place; of one where that is the halted app alone no page speaks."""
+    something else than was or is in place, if a load changes more than the halt; of one where it
+    changes the halted app alone, in another way, no page speaks."""
     if not server.is_up or plan.then is None:
         return False
     is_strange = is_other(night, known, server)
@@ -123,7 +124,7 @@ def is_loaded(night, call, plan, known, server, output):
         # Perhaps only the cut record knows what it serves: then it is another one.
         said = call.word == "halt" and call.appid in server.halts
         return call.other_server or len(generations(output, server.operator)) > said
-    if call.word != "halt" or call.anyway or server.load == plan.now:
+    if call.word != "halt" or call.anyway or server.load in (plan.now, plan.then):
         return True
     loads = [it for it in (plan.now, plan.then) if it]
     if any(it.is_but_for(call.appid, server.load) for it in loads):
@@ -149,12 +150,10 @@ def load_servers(night, call, plan, known, output):
         elif call.version and call.appid in it.halts and EARLIER not in output:
             lines.append(f"{call.appid} {EARLIER} at {it.operator}")
         for app in dict.fromkeys(lifted):
-            more = f", {app} is offered again"
+            # One that doesn't halt it by its own word offers it by its load.
             if app in it.halts:
                 it.halts.remove(app)
                 it.generation += 1
-            elif (it.generation, more) not in generations(output, it.operator):
-                # It is halted there by its file alone: no page says whether the line is printed.
-                continue
-            lines.append(f"server at {it.operator}: generation {it.generation}{more}")
+                more = f", {app} is offered again"
+                lines.append(f"server at {it.operator}: generation {it.generation}{more}")
     return lines, is_bad
