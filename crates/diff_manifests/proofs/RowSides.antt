@@ -101,7 +101,7 @@ shows_rows x old new old_side new_side space rows releases others c arrays more 
         new_is = new_is;
         is_diff = is;
       };
-      are_shown = subst (λ (from : RowSources). AreShown x space.dimensions from rows shown.rows.items)
+      are_shown = subst (λ (s : RowSources). AreShown x space.dimensions s rows shown.rows.items)
           (sources_are old new releases others c arrays more r s has a b) are;
     }
 
