@@ -1,7 +1,7 @@
 -- A step of one file, or of none, replaces that file.
 use Rattle.std.proofs.Common.{◌≡◌, ℕ, List, [], ◌∷◌, Option, Some, None, inl, inr, refl, ap, ◌∙◌}
 use Rattle.std.proofs.Common.{subst, sym}
-use Rattle.std.specs.Prelude.{Bool, IfSome, option_map, option_to_list, false}
+use Rattle.std.specs.Prelude.{All, Bool, IfSome, option_map, option_to_list, false}
 use Rattle.std.proofs.lemmas.List.Elements.{All-cons, All-nil}
 use Rattle.bounded_files.specs.Files.{KnownFiles}
 use Rattle.stage_folder.specs.Folders.{IsFree, KnownFolder, KnownRecords, put, put_known}
@@ -14,13 +14,14 @@ use Rattle.stage_records.specs.declared.step.StepAction.TheVariants.{Resume}
 use Rattle.stage_servers.specs.declared.options.StageOptions.{StageOptions}
 use Rattle.stage_commands.specs.Apps.{Replaces, ReplacesBy}
 use Rattle.stage_commands.specs.Backs.{HasGoneBack, PlansBack, UndoingLiftsNone, Undoes}
+use Rattle.stage_commands.specs.Compared.{IsAcceptedWith}
 use Rattle.stage_commands.specs.Puts.{HasPut}
 use Rattle.stage_commands.specs.PutPlans.{IsPutPlan}
 use Rattle.stage_commands.specs.ReleaseHalts.{HasHaltedRelease, PlansReleaseHalt}
 use Rattle.stage_commands.specs.Resumes.{HasResumed, PlansResume}
 use Rattle.stage_commands.specs.Stages.{HasHalted, HasRaised, PlansHalt, PlansRaise}
 use Rattle.stage_commands.specs.Taken.{IsTaken, Takes}
-use Rattle.stage_servers.specs.Whole.{AreAllRead}
+use Rattle.stage_servers.specs.Whole.{AreAllRead, HasOnlySteps}
 use Rattle.stage_commands.specs.declared.puts.Plan.{Plan}
 use Rattle.stage_commands.proofs.Put.{StepsLeave, found_changes, in_place}
 
@@ -97,6 +98,11 @@ taken options number did wanted files old_records new_records old new is free fo
   takes = subst (λ a. Takes options number a files old_records new_records old new) is takes;
 }
 
+all_listed : (P : ReplacedFile → Type 0) (file : Option ReplacedFile) → IfSome file P
+    → All P (option_to_list file)
+all_listed P None is = All-nil P
+all_listed P (Some file) is = All-cons P file [] is (All-nil P)
+
 module _ (known : KnownFiles) (manifest appid : List ℕ) (options : StageOptions)
     (old_records new_records : KnownRecords) (old new : KnownFolder)
     (file : Option ReplacedFile) (number : ℕ) (owned : List ℕ) where
@@ -131,17 +137,20 @@ module _ (known : KnownFiles) (manifest appid : List ℕ) (options : StageOption
   }
 
   pub raised : (buckets : ℕ) → owned ≡ appid → IsFree old_records number
-      → PlansRaise known manifest appid buckets options old file
+      → HasOnlySteps old_records → PlansRaise known manifest appid buckets options old file
+      → IfSome file (IsAcceptedWith known manifest)
       → Takes options number (Raise owned buckets) (option_to_list file) old_records new_records
       old new
       → HasRaised known manifest appid buckets options old_records new_records old new
-  raised buckets own free plans takes = let plan = plans.plan in record {
+  raised buckets own free read plans accepted takes = let plan = plans.plan in record {
+    read = read;
     app = plans.app;
     is_app = plans.is_app;
     text = plan.text;
     raises = plan.raises;
     replaced = replaces old new _ _ file plan.by (done_by _ _ _ _ _ _ old new takes);
     files = option_to_list file;
+    accepted = all_listed (IsAcceptedWith known manifest) file accepted;
     taken = taken options number (Raise owned buckets) (Raise appid buckets) _ _ _ old new
         (ap (λ a. Raise a buckets) own) free (found_file old _ _ file plan.by) takes;
   }
@@ -149,10 +158,11 @@ module _ (known : KnownFiles) (manifest appid : List ℕ) (options : StageOption
   pub resumed : (buckets : Option ℕ) (recorded : RecordedSteps) → owned ≡ appid
       → IsFree old_records number → AreAllRead old_records recorded
       → PlansResume known manifest appid buckets options old recorded.steps.items file
+      → IfSome file (IsAcceptedWith known manifest)
       → Takes options number (Resume owned buckets) (option_to_list file) old_records new_records
       old new
       → HasResumed known manifest appid buckets options old_records new_records old new
-  resumed buckets recorded own free are plans takes = let plan = plans.plan in record {
+  resumed buckets recorded own free are plans accepted takes = let plan = plans.plan in record {
     recorded = recorded;
     are = are;
     app = plans.app;
@@ -162,6 +172,7 @@ module _ (known : KnownFiles) (manifest appid : List ℕ) (options : StageOption
     resumes = plan.resumes;
     replaced = replaces old new _ _ file plan.by (done_by _ _ _ _ _ _ old new takes);
     files = option_to_list file;
+    accepted = all_listed (IsAcceptedWith known manifest) file accepted;
     taken = taken options number (Resume owned buckets) (Resume appid buckets) _ _ _ old new
         (ap (λ a. Resume a buckets) own) free (found_file old _ _ file plan.by) takes;
   }

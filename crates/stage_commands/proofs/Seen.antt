@@ -11,7 +11,7 @@ use Rattle.stage_servers.specs.Unedited.{IsUnedited, compares_files}
 use Rattle.stage_servers.specs.Whole.{IsSeenWhole, only_looks}
 use Rattle.stage_servers.specs.declared.options.StageOptions.{StageOptions}
 use Rattle.stage_servers.specs.declared.serves.Surveyed.{Surveyed}
-use Rattle.stage_commands.specs.Actions.{HasNoEdits, IsStaged}
+use Rattle.stage_commands.specs.Actions.{HasNoEdits, IsStaged, IsUnchanged}
 use Rattle.stage_commands.specs.Planned.{IsPlanned}
 
 pub planned : (known : KnownFiles) (manifest : List ℕ) (options : StageOptions)
@@ -58,6 +58,13 @@ unseen records files (action.HaltRelease appid version) looks = tt
 unseen records files (action.Raise appid buckets) looks = tt
 unseen records files (action.Put next) looks = tt
 unseen records files (action.Resume appid buckets) looks = tt
+
+-- nothing is owed of an action that changes files
+pub not_looked : (old_records new_records : KnownRecords) (old new : KnownFolder)
+    (did : StageAction) → only_looks did ≡ false → only_looks did ≡ true
+    → IsUnchanged old_records new_records old new
+not_looked old_records new_records old new did changes looks =
+    absurd (true≢false (sym looks ∙ changes))
 
 -- an action that only looks compares no file
 pub not_compared : (options : StageOptions) (records : KnownRecords) (files : KnownFolder)

@@ -31,7 +31,7 @@ pub record IsAppOf (known : KnownFiles) (path appid : List ℕ) (anyway : Bool) 
 
 -- ---- one file
 
--- what replaces a file by these bytes: nothing, if it has them already
+-- what replaces a file by these bytes; nothing only if it has them already
 abbrev pub ReplacesBy : KnownFolder → (name bytes : List ℕ) → Option ReplacedFile → Type 0
 ReplacesBy known name bytes None = GivesFile known name (Some bytes)
 ReplacesBy known name bytes (Some file) =

@@ -37,8 +37,8 @@ pub record Undoes (step : StagingStep) (old_records new_records : KnownRecords)
   pub recorded : IsRecorded (as_undone step) old_records new_records
 
 module _ (known : KnownFiles) (current : List ℕ) (anyway : Bool) where
-  -- what is to be undone: the last step, of which no file was edited since; without `--anyway` that
-  -- lifts no halt
+  -- what is to be undone: the last step, of which no file was edited since; without `--anyway` one
+  -- that lifts no halt, as far as that is known
   pub record PlansBack (records : KnownRecords) (files : KnownFolder) : Type 0 where
     pub step : StagingStep
     pub last : IsLast records step

@@ -14,7 +14,7 @@ use Rattle.stage_commands.specs.Puts.{PlansPut}
 use Rattle.stage_commands.specs.ReleaseHalts.{PlansReleaseHalt}
 use Rattle.stage_commands.specs.Resumes.{PlansResume}
 use Rattle.stage_commands.specs.Stages.{PlansHalt, PlansRaise}
-use Rattle.stage_servers.specs.Whole.{AreAllRead}
+use Rattle.stage_servers.specs.Whole.{AreAllRead, HasOnlySteps}
 
 module _ (known : KnownFiles) (manifest : List ℕ) (options : StageOptions)
     (records : KnownRecords) (files : KnownFolder) where
@@ -27,7 +27,7 @@ module _ (known : KnownFiles) (manifest : List ℕ) (options : StageOptions)
       × PlansReleaseHalt known manifest appid version options files file
 
   abbrev pub IsRaisePlanned : (appid : List ℕ) → (buckets : ℕ) → Type 0
-  IsRaisePlanned appid buckets = (file : Option ReplacedFile)
+  IsRaisePlanned appid buckets = HasOnlySteps records × (file : Option ReplacedFile)
       × PlansRaise known manifest appid buckets options files file
       × IfSome file (IsAcceptedWith known manifest)
 

@@ -28,7 +28,8 @@ abbrev pub IsUnrefused : Present → Type 0
 IsUnrefused (present.Refused why) = ⊥
 IsUnrefused other = Unit {0}
 
--- a name, if the next manifest may lift a halt in force; without one, it lifts none
+-- a name, if the next manifest may lift a halt in force; without one, it lifts none, unless the one
+-- in place is refused
 abbrev pub IsLiftedBy : List StagingStep → Present → (next : List AppSources)
     → Option (List ℕ) → Type 0
 IsLiftedBy steps present.Nothing next lifted = lifted ≡ None → LiftsNothing steps [] next

@@ -58,7 +58,7 @@ abbrev pub Extends : (files more : List ReplacedFile) → Type 0
 Extends files more =
     (name bytes : List ℕ) → left_by files name ≡ Some bytes → left_by more name ≡ Some bytes
 
--- these files leave an app's file with the bytes that were gathered
+-- these files leave an app's file with the bytes that were gathered, if they are whole
 abbrev pub IsGivenBy : List ReplacedFile → AppSources → Type 0
 IsGivenBy files app =
     IfSome (whole_file app.kept) (λ bytes. left_by files (file_of app.entry.source) ≡ Some bytes)
@@ -103,7 +103,7 @@ pub data LiftsNone (known : KnownFiles) (current : List ℕ) (folder : KnownFold
 
 -- ---- the whole
 
--- an app's file has the bytes that were gathered
+-- an app's file has the bytes that were gathered, if they are whole
 abbrev pub IsInPlace : KnownFolder → AppSources → Type 0
 IsInPlace folder app = IfSome (whole_file app.kept)
     (λ bytes. GivesFile folder (file_of app.entry.source) (Some bytes))

@@ -1,5 +1,5 @@
 -- What `resume` does to the files of a folder.
-use Rattle.std.specs.Prelude.{◌≡◌, ◌&&◌, ℕ, nat_lt, List, Option, Some, None, is_some}
+use Rattle.std.specs.Prelude.{◌≡◌, ◌&&◌, ℕ, nat_lt, List, All, Option, Some, None, is_some}
 use Rattle.std.specs.Prelude.{Bool, true, false, not}
 use Rattle.std.specs.List.{list_any}
 use Rattle.bounded_files.specs.Files.{KnownFiles}
@@ -13,6 +13,7 @@ use Rattle.stage_records.specs.declared.step.StepAction.TheVariants.{Resume}
 use Rattle.stage_rules.specs.InForce.{is_resumable, last_halt}
 use Rattle.stage_rules.specs.Raises.{IsRaised}
 use Rattle.stage_commands.specs.Apps.{IsAppOf, Replaces, ReplacesBy}
+use Rattle.stage_commands.specs.Compared.{IsAcceptedWith}
 use Rattle.stage_servers.specs.Replaced.{file_named}
 use Rattle.stage_servers.specs.declared.options.StageOptions.{StageOptions}
 use Rattle.stage_commands.specs.Taken.{IsTaken}
@@ -62,8 +63,9 @@ module _ (known : KnownFiles) (manifest appid : List ℕ) (buckets : Option ℕ)
     pub plan : PlansResumeOf folder steps app buckets file
 
   -- a halt of the app is in force, or its last one is that of a release; its file then has what its
-  -- last recorded halt found there, but for the number of its threshold if one is given; all other
-  -- files are as before, and a step that replaces a file is recorded
+  -- last recorded halt found there, but for the number of its threshold if one is given; the
+  -- manifest isn't refused with a file that is replaced; all other files are as before, and a step
+  -- that replaces a file is recorded
   pub record HasResumed (old_records new_records : KnownRecords) (old new : KnownFolder)
       : Type 0 where
     pub recorded : RecordedSteps
@@ -76,4 +78,5 @@ module _ (known : KnownFiles) (manifest appid : List ℕ) (buckets : Option ℕ)
     pub resumes : ResumesTo recorded.steps.items app buckets text
     pub replaced : Replaces old new (file_of app.entry.source) text
     pub files : List ReplacedFile
+    pub accepted : All (IsAcceptedWith known manifest) files
     pub taken : IsTaken options (Resume appid buckets) files old_records new_records old new

@@ -1,5 +1,5 @@
 -- What each action of `stage` does to the files of a folder.
-use Rattle.std.specs.Prelude.{◌≡◌, ℕ, List, Option, Some}
+use Rattle.std.specs.Prelude.{◌≡◌, ℕ, List, All, Option, Some}
 use Rattle.bounded_files.specs.Files.{KnownFiles}
 use Rattle.load.specs.declared.sources.AppSources.{AppSources}
 use Rattle.manifest.specs.App.{file_of}
@@ -9,7 +9,9 @@ use Rattle.stage_rules.specs.Raises.{IsRaised}
 use Rattle.stage_records.specs.Steps.{ReplacedFile}
 use Rattle.stage_records.specs.declared.step.StepAction.TheVariants.{Halt, Raise}
 use Rattle.stage_servers.specs.declared.options.StageOptions.{StageOptions}
+use Rattle.stage_servers.specs.Whole.{HasOnlySteps}
 use Rattle.stage_commands.specs.Apps.{IsAppOf, Replaces, ReplacesBy}
+use Rattle.stage_commands.specs.Compared.{IsAcceptedWith}
 use Rattle.stage_commands.specs.Taken.{IsTaken}
 
 -- ---- halt
@@ -67,14 +69,17 @@ module _ (known : KnownFiles) (manifest appid : List ℕ) (buckets : ℕ) (optio
       pub is_app : IsAppOf known manifest appid options.anyway app
       pub plan : PlansRaiseOf folder app buckets file
 
-    -- the app's rule is then the one before with this number in its threshold; all other files are
-    -- as before, and a step that replaces a file is recorded
+    -- each record is a step's; the app's rule is then the one before with this number in its
+    -- threshold; the manifest isn't refused with a file that is replaced; all other files are as
+    -- before, and a step that replaces a file is recorded
     pub record HasRaised (old_records new_records : KnownRecords) (old new : KnownFolder)
         : Type 0 where
+      pub read : HasOnlySteps old_records
       pub app : AppSources
       pub is_app : IsAppOf known manifest appid options.anyway app
       pub text : List ℕ
       pub raises : RaisesTo old app buckets text
       pub replaced : Replaces old new (file_of app.entry.source) text
       pub files : List ReplacedFile
+      pub accepted : All (IsAcceptedWith known manifest) files
       pub taken : IsTaken options (Raise appid buckets) files old_records new_records old new

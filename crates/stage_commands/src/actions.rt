@@ -86,6 +86,8 @@ where
         (F.records folder.old) (F.files folder.old)) }
     ensures stopped { IfErr result (λ stop. LeftBy stop (F.records folder.old)
         (F.records folder.new) (F.files folder.old) (F.files folder.new)) }
+    ensures looked { specs.only_looks action.now ≡ true → IsUnchanged (F.records folder.old)
+        (F.records folder.new) (F.files folder.old) (F.files folder.new) }
     ensures unchanged { call.now.options.now.dry_run ≡ true → IsUnchanged (F.records folder.old)
         (F.records folder.new) (F.files folder.old) (F.files folder.new) }
 {
@@ -129,6 +131,8 @@ where
     ensures left { options.now.dry_run ≡ false → IsStagedOrLeft (D.known disk.now) manifest.now
         options.now action.now (F.records folder.old) (F.records folder.new)
         (F.files folder.old) (F.files folder.new) }
+    ensures looked { specs.only_looks action.now ≡ true → IsUnchanged (F.records folder.old)
+        (F.records folder.new) (F.files folder.old) (F.files folder.new) }
     ensures unchanged { options.now.dry_run ≡ true → IsUnchanged (F.records folder.old)
         (F.records folder.new) (F.files folder.old) (F.files folder.new) }
 {
@@ -146,8 +150,9 @@ where
     }
 }
 
-/// Does an action in a folder that is opened and locked, and has the servers load its manifest,
-/// whose path is given. The outcome says what is done, or why not and what to do.
+/// Does an action in a folder that is opened, and locked unless it only looks; then has the servers
+/// load the manifest at this path, which has to be the folder's: no clause requires it. The outcome
+/// says what is done, or why not and what to do.
 // open: whether an allocation fails, its one error; what is printed, what a server does, and which
 // stops there are: bench/outside. After a stop a step may be recorded, and some of its files
 // replaced, or restored; `status` names those that aren't as it left them, `back` restores all.
@@ -176,6 +181,8 @@ where
     ensures left { options.now.dry_run ≡ false → IsStagedOrLeft (D.known disk.now) manifest.now
         options.now action.now (F.records folder.old) (F.records folder.new)
         (F.files folder.old) (F.files folder.new) }
+    ensures looked { specs.only_looks action.now ≡ true → IsUnchanged (F.records folder.old)
+        (F.records folder.new) (F.files folder.old) (F.files folder.new) }
     ensures unchanged { options.now.dry_run ≡ true → IsUnchanged (F.records folder.old)
         (F.records folder.new) (F.files folder.old) (F.files folder.new) }
 {

@@ -40,7 +40,7 @@ fn halting_file_of<F: StageFolder>(
     Ok(file)
 }
 
-// The same, by the manifest in place. No other app is looked at, and nothing is compared.
+// The same, by the manifest in place. No other app is judged, and nothing is compared.
 fn file_by<R, D, F>(
     call: &StageCall<'_, R, D>,
     folder: &F,

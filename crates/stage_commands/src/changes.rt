@@ -59,7 +59,7 @@ where
     }
 }
 
-// What is found before anything is changed: what each server serves, and which apps are halted.
+// What is found before a file is changed: what each server serves, and which apps are halted.
 #[derive(Drop)]
 struct Found {
     servers: Vec<Surveyed>,

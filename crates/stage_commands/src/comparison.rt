@@ -71,9 +71,8 @@ where
     push_rows(call.rt, both, &cells, &mut lines.text)
 }
 
-/// Prints what changes from today on: from what is in place, and from what each server serves, if
-/// that is something else. A lost row, or an app that isn't compared, is a refusal, unless
-/// `--anyway` is given.
+/// Prints what changes from today on, from what the servers serve or what is in place. A lost row,
+/// or an app that isn't compared, is a refusal, unless `--anyway` is given.
 #[tactic(auto, using(crate::proofs::Opening::both_kept))]
 pub(crate) fn compare<R, D>(
     call: &StageCall<'_, R, D>,

@@ -47,9 +47,9 @@ where
     outcome
 }
 
-/// Does an action in the folder of the options, and has the servers load its `current.toml`. Stops
-/// if another call is at work in that folder. A halt is sent to the servers first, before any file
-/// is read.
+/// Does an action in the folder of the options, and has the servers load its `current.toml`. All
+/// but a status and a history stop if another call is at work there. A halt is sent to the servers
+/// first, before any file is read.
 // open: whether an allocation fails, its one error; what is done in a device's folder. By reading
 // it does what `stage_in` does.
 pub fn stage<R, D>(

@@ -12,8 +12,9 @@
 // nothing is changed meanwhile: the file that halts an app (`app_halts.rt`), a rule with another
 // number (`raises.rt`), the one from before a halt (`resumes.rt`), the files of another manifest
 // (`puts.rt`). All but a halt are compared with what the servers serve (`comparison.rt`,
-// `served_rows.rt`), and their rules are warned of as `check` does (`warned.rt`). The plan is a
-// step, which is recorded and then performed (`taking.rt`).
+// `served_rows.rt`), and the rules of a raise, a resume and a put are warned of as `check` does
+// (`warned.rt`). The plan is a step, which is recorded and then performed (`taking.rt`), or for
+// `back` one that is undone (`undoing.rt`).
 //
 // Then each server loads the manifest (`stage_servers`), also if nothing had to be replaced.
 //

@@ -115,8 +115,8 @@ where
     text.finish()
 }
 
-/// Notes that an action is at work in the folder. If the note can't be written, others only don't
-/// know which call it is.
+/// Notes that an action is at work in the folder. If the note can't be written, others don't know
+/// which call it is, or name one that crashed.
 pub(crate) fn note_work<R, F>(
     rt: &R,
     folder: &F,

@@ -61,7 +61,7 @@ where
     }
 }
 
-/// The app of a halt in force that the next manifest lifts, by the manifest in place.
+/// The app of a halt in force that the next manifest may lift; none if the one in place is refused.
 pub(crate) fn lifted_by<'a>(
     alloc: Global,
     steps: &'a [StagingStep],

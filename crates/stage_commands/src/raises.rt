@@ -157,7 +157,7 @@ where
 }
 
 /// Raises the rule of an app, once the next manifest is judged and compared with the present one.
-#[tactic(auto, using(crate::proofs::Replacing::raised, crate::proofs::Left::unchanged_by))]
+#[tactic(auto, using(crate::proofs::Left::unchanged_by))]
 pub(crate) fn raise<R, D, F>(
     call: &StageCall<'_, R, D>,
     folder: &mut F,
@@ -181,9 +181,11 @@ where
         (F.records folder.new) (F.files folder.old) (F.files folder.new) }
 {
     let alloc = call.rt.alloc();
-    if let Err(stop) = read_steps(alloc, folder) {
-        return Err(stop);
-    }
+    let recorded = match read_steps(alloc, folder) {
+        Ok(recorded) => recorded,
+        Err(stop) => return Err(stop),
+    };
+    drop(recorded);
     let number = match number_in(alloc, folder) {
         Ok(number) => number,
         Err(stop) => return Err(stop),

@@ -56,7 +56,7 @@ fn stop_unless_halted(
     Err(not_halted(alloc, steps, &collected.sources.apps, appid))
 }
 
-// What resumes an app of the manifest in place, if its halt is in force.
+// What resumes an app of the manifest in place, if it can be resumed.
 fn file_by<R, D, F>(
     call: &StageCall<'_, R, D>,
     folder: &F,
@@ -120,8 +120,9 @@ where
     }
 }
 
-/// Gives the app's file what it had before its last halt, which is in force; if a number is given,
-/// the rule then has this number in its threshold. The next manifest is judged and compared first.
+/// Gives the app's file what it had before its last halt, if that is in force or of a release; with
+/// a number, the rule then has this number in its threshold. The next manifest is judged and
+/// compared first.
 #[tactic(auto, using(crate::proofs::Replacing::resumed, crate::proofs::Left::unchanged_by))]
 pub(crate) fn resume<R, D, F>(
     call: &StageCall<'_, R, D>,

@@ -167,8 +167,8 @@ fn new_step<R: AllocGlobal + Clock, D>(
     })
 }
 
-/// Records and performs a step of this new number that replaces these files, which have the bytes
-/// of the folder. It does nothing for `--dry-run`, and records none that replaces no file.
+/// Records and performs a step of this new number that replaces these files, as they are in the
+/// folder. It only prints for `--dry-run`, and records none that replaces no file.
 #[tactic(auto, using(crate::proofs::Left::takes_by, crate::proofs::Left::unchanged_by))]
 pub(crate) fn take_step<R, D, F>(
     call: &StageCall<'_, R, D>,

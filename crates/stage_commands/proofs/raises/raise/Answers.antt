@@ -1,13 +1,25 @@
-use Rattle.stage_commands.proofs.Replacing.{raise_found}
+use Rattle.std.proofs.Common.{rules}
+use Rattle.stage_commands.proofs.Left.{on_ok, on_ok_of}
+use Rattle.stage_commands.proofs.Replacing.{raise_found, raised}
 use Rattle.stage_commands.proofs.raises.raise.Goals as goal
-use Rattle.stage_commands.proofs.Left.{on_ok_of}
 
 pub take_file-requires-clause-found : goal.take_file-requires-clause-found
 take_file-requires-clause-found g c =
     raise_found _ _ _ _ _ _ c.in-Ok-planned_file.file c.in-Ok-planned_file.ensures.planned
 
+pub returns-in-Ok-planned_file-clause-done : goal.returns-in-Ok-planned_file-clause-done
+returns-in-Ok-planned_file-clause-done g c =
+    let plans = c.in-Ok-planned_file.ensures in
+    on_ok c.take_file.result _ _ (λ takes wet. raised _ _ _ _ _ _ _ _ c.in-Ok-planned_file.file _ _
+    c.args.buckets c.in-Ok-owned_text.ensures (search rules) (c.in-Ok.recorded, c.in-Ok.ensures)
+    plans.planned plans.accepted (takes wet)) c.take_file.ensures.done
+
 pub returns-in-Ok-planned_file-clause-planned : goal.returns-in-Ok-planned_file-clause-planned
 returns-in-Ok-planned_file-clause-planned g c =
     let plans = c.in-Ok-planned_file.ensures in
-    on_ok_of c.take_file.result _
-    (c.in-Ok-planned_file.file, plans.planned, plans.accepted)
+    on_ok_of c.take_file.result _ (
+      (c.in-Ok.recorded, c.in-Ok.ensures),
+      c.in-Ok-planned_file.file,
+      plans.planned,
+      plans.accepted,
+    )

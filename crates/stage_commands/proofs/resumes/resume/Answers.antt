@@ -12,7 +12,7 @@ returns-in-Ok-owned_text-clause-done g c =
     let plans = rw c.deref.ensures.value at c.in-Ok-planned.ensures.planned in
     on_ok c.take_file.result _ _ (λ takes wet. resumed _ _ _ _ _ _ _ _ c.in-Ok-planned.file _ _
     c.args.buckets c.in-Ok.recorded c.in-Ok-owned_text.ensures (search rules) c.in-Ok.ensures
-    plans (takes wet)) c.take_file.ensures.done
+    plans c.in-Ok-planned.ensures.accepted (takes wet)) c.take_file.ensures.done
 
 pub returns-in-Ok-owned_text-clause-planned : goal.returns-in-Ok-owned_text-clause-planned
 returns-in-Ok-owned_text-clause-planned g c =
