@@ -36,7 +36,7 @@ fn known_of_rule(
 
 /// Whether an app's file offers a version, if that is certain: a file that couldn't be read, or
 /// that isn't a rule, may offer any. A program that doesn't halt its app counts as an offer.
-// open: whether an allocation fails, which is its one error.
+// open: whether an allocation fails, which is its one error; whether it is certain: rows.
 pub fn known_offer(
     alloc: Global,
     app: &AppSources,

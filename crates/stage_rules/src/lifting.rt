@@ -81,7 +81,8 @@ fn lifted_release<'a>(
 
 /// The app of a halt that the next manifest may lift: it isn't surely offered by the current one,
 /// and may be by the next. The same of a halted release, for which both rules are read.
-// open: whether an allocation fails, which is its one error.
+// open: whether an allocation fails, which is its one error; that a halt which isn't lifted isn't
+// named, and which app is: rows.
 pub fn lifted_app<'a>(
     alloc: Global,
     steps: &'a [StagingStep],

@@ -149,6 +149,7 @@ where
 /// step left: unless `--anyway` is given, or `--other-server` if it has another app. A halt doesn't
 /// stop. Nor does undoing a step that the server doesn't serve yet, as one that stopped in its
 /// middle.
+// open: that it doesn't stop otherwise, as at a halt: bench/outside.
 pub fn stop_if_drifted<R, D>(
     call: &StageCall<'_, R, D>,
     servers: &[Surveyed],

@@ -91,6 +91,7 @@ pub fn collected_with<D: Disk>(
 }
 
 /// The same, if it has this digest, by which a server names what it was loaded with.
+// open: whether it can be gathered, and that it has these files: rows.
 pub fn collected_as<D: Disk>(
     alloc: Global,
     disk: &D,

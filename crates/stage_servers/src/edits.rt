@@ -150,6 +150,7 @@ fn stop_if_some_edited<F: StageFolder>(
 /// looks if no server says what it serves, or if one serves what the last step left, and that isn't
 /// in place. A halt doesn't stop; nor does a put at such a server, since its rows begin with what
 /// is served. The files of the step that `back` is to undo are left to `undo`, which looks at them.
+// open: that it doesn't stop otherwise, as at a halt: bench/outside.
 pub fn stop_if_edited<R, D, F>(
     call: &StageCall<'_, R, D>,
     folder: &F,

@@ -1,5 +1,5 @@
 //! The end of a halt at the servers: each is sent `resume APPID` once it has loaded files that lift
-//! the halt.
+//! the halt, if it was surely in force, and the manifest then in place had the app.
 
 // No contract says what a server does, or what is printed: bench/outside tests it.
 
@@ -73,8 +73,9 @@ fn with_resumed(
     Ok(halted)
 }
 
-/// The apps in place whose halts are surely in force, and may be lifted by this action; none if the
-/// records or the manifest can't be read. A halt and a raise lift none.
+/// The apps in place whose halts are surely in force, and may be lifted by this action; for a
+/// resume also its app, if its last halt is that of a release. None if the records or the manifest
+/// can't be read. A halt and a raise lift none.
 // open: which apps these are: bench/outside.
 pub fn apps_halted<R, D, F>(
     call: &StageCall<'_, R, D>,

@@ -9,8 +9,8 @@
 // left (`earlier_files.rt`). An action but a halt stops if a server serves neither what is in place
 // nor what the last step left (`drift.rt`), or at an edited file, if it looks at the files
 // (`edits.rt`). Once the files are changed, each server loads the manifest (`loads.rt`), and then
-// offers again the apps whose halts are lifted (`halt_ends.rt`). Its reply is noted
-// (`load_notes.rt`), by which a status knows what an older server serves (`servers.rt`).
+// offers again those apps of the manifest before whose halts are lifted (`halt_ends.rt`). Its reply
+// is noted (`load_notes.rt`), by which a status knows what an older server serves (`servers.rt`).
 //
 // A server's replies are its own. What is known of files is what `load` gathers.
 

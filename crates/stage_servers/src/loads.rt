@@ -35,8 +35,9 @@ where
     }
 }
 
-// What became of the loads: the ports of the servers that didn't load, each after a space; whether
-// a server was left without a load; and whether the others offer again what they were to offer.
+// What became of the loads: the ports of the servers of which no reply says that they loaded, each
+// after a space; whether a server was left without a load; and whether the others offer again what
+// they were to offer.
 #[derive(Drop)]
 struct Loads {
     refused: String,
@@ -68,7 +69,8 @@ fn is_complete(loads: &Loads) -> bool {
     loads.refused.is_empty() && !loads.has_left_out
 }
 
-// Adds the ports of the servers that didn't load the manifest, if there are any, and what to do.
+// Adds the ports of the servers of which no reply says that they loaded the manifest, if there are
+// any, and what to do.
 fn push_refused(stderr: &mut TextBuffer, refused: &str, manifest: &str) {
     if refused.is_empty() {
         return;

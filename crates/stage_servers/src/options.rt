@@ -22,7 +22,8 @@ pub struct StageOptions<'a> {
     /// Whether nothing is changed, and only printed what would be.
     pub dry_run: bool,
     /// Whether it continues if a release would be lost, a halt lifted, or another app also changed,
-    /// if a server serves something else than is in place, or if a file was edited.
+    /// if a server serves something else than is in place, or if a file was edited, but one of the
+    /// step that `back` undoes.
     pub anyway: bool,
     /// Whether it continues at a server that serves an app of neither side.
     pub other_server: bool,

@@ -141,6 +141,7 @@ impl Lines {
     }
 
     /// Continues in spite of a refusal, if an option says so. Memory running out isn't passed over.
+    // open: that it continues then: rows.
     pub fn go_on_if(&mut self, may: bool, refusal: Stop) -> Result<(), Stop>
         ensures { OnOk result (may ≡ true) }
     {
@@ -157,6 +158,7 @@ impl Lines {
     }
 
     /// The outcome, which has these lines, if they are complete.
+    // open: that it has these lines: rows.
     pub fn into_outcome(self, is_done: bool) -> Result<StageOutcome, AllocError>
         ensures { IfOk result (λ outcome. outcome.is_done ≡ is_done) }
     {
@@ -175,6 +177,7 @@ impl Lines {
     }
 
     /// The outcome of an action that stopped.
+    // open: that it has the lines: rows.
     pub fn into_stopped(self, stop: Stop) -> Result<StageOutcome, AllocError>
         ensures { IfOk result (λ outcome. outcome.is_done ≡ false) }
     {
