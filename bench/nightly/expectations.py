@@ -75,8 +75,7 @@ def untrue_files(plan, call, output):
 
 def take(night, plan):
     """The files and steps after a call that went on."""
-    if plan.step or plan.undone:
-        night.left += [plan.now, plan.then]
+    night.left += [plan.now, plan.then]
     for name, text in plan.files.items():
         if text is None:
             night.files.pop(name, None)

@@ -37,7 +37,8 @@ class Night:
         how = {"check": False, "stderr": subprocess.DEVNULL}
         self.is_mounted = os.geteuid() == 0 and subprocess.run(mount, **how).returncode == 0
         self.files, self.modes, self.steps, self.servers = {}, {}, [], []
-        # What was in place before and after each step, also one that is undone.
+        # What was in place before and after each step, also one that is undone, or that replaced
+        # nothing and only loaded.
         self.left = []
         self.complaints, self.told = [], []
 

@@ -54,7 +54,8 @@ def is_other(night, known, server):
 
 
 def steps_served(night, server):
-    """How a server is described that doesn't serve what is in place: each way that is so."""
+    """How a server is described that doesn't serve what is in place: each way that is so. What
+    `stage` loaded counts as a step that is undone, also if a file was edited since."""
     numbers = [it.number for it in night.steps if not it.is_undone]
     words = [FIRST, *(f"step {it}" for it in numbers)]
     found = [it for it, load in zip(words, left_by_each(night)) if load == server.load]

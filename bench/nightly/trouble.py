@@ -56,7 +56,7 @@ def settle(night, call, said, is_killed):
         night.wrong(f"a dry run has changed {changed}")
     settle_steps(night, plan, changed, expected, errors)
     night.files = found
-    if plan.step in night.steps or plan.undone:
+    if plan.step in night.steps or plan.undone or UNCHANGED not in errors:
         night.left += [plan.now, plan.then, night.load()]
     for it in night.servers:
         if it.is_up:
