@@ -4,7 +4,7 @@ from dataclasses import dataclass, field
 # What a stop says, by its reason.
 STOPS = {
     "other": r"is another one: it serves",
-    "drift": r"serves (step \d|what was there|a step that is undone|what no step)|was edited since|"
+    "drift": r"serves (step \d|what was there|what stage loaded last|what no step)|was edited since|"
              r"isn't as step \d+ left it",
     "record": r"is no record of",
     "app": r"has no app",

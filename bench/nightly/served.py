@@ -6,11 +6,11 @@ from nightly.rules import KNOWN, load_of
 
 SERVES = re.compile(
     r"^(?:stage: )?server at (\d+)(?: serves|: generation \d+,|: not loaded, it serves) "
-    r"(step \d+|what was there before the first step|a step that is undone|what no step left)\b",
+    r"(step \d+|what was there before the first step|what stage loaded last|what no step left)\b",
     re.M,
 )
 FIRST, UNDONE, OTHER = (
-    "what was there before the first step", "a step that is undone", "what no step left",
+    "what was there before the first step", "what stage loaded last", "what no step left",
 )
 SINCE = re.compile(r"(\S+) was edited since step (\d+), which the server at (\d+) serves")
 UNLIKE = re.compile(r"(\S+) isn't as step (\d+) left it")
@@ -55,7 +55,7 @@ def is_other(night, known, server):
 
 def steps_served(night, server):
     """How a server is described that doesn't serve what is in place: each way that is so. What
-    `stage` loaded counts as a step that is undone, also if a file was edited since."""
+    `stage` loaded last, and no step that isn't undone left, has words of its own."""
     numbers = [it.number for it in night.steps if not it.is_undone]
     words = [FIRST, *(f"step {it}" for it in numbers)]
     found = [it for it, load in zip(words, left_by_each(night)) if load == server.load]

@@ -23,7 +23,7 @@ pub fn push_serves(text: &mut TextBuffer, serves: &Serves) {
     match serves {
         Serves::Step { number: 0, .. } => text.push("what was there before the first step"),
         Serves::Step { number, .. } => text.push_number("step ", *number as u64, ""),
-        Serves::LastLoaded => text.push("a step that is undone"),
+        Serves::LastLoaded => text.push("what stage loaded last"),
         Serves::Other { loaded, .. } => {
             text.push_printed("what no step left, loaded ", loaded.as_str(), "")
         }
