@@ -72,9 +72,11 @@ def refusal_of(page):
 
 
 def oversized(page, lines):
-    """A page of three apps has at most 100 KB, and each one 2 MB."""
+    """A page of three apps has at most 100 KB, and one of 256 apps 2 MB. Each load within sight
+    adds 10 bytes to each strip, so at a report's limits, with 256 of them, it has 4 MB."""
     apps = {app["appid"] for line in lines for app in line.get("apps", [])}
-    most = 100_000 if len(apps) <= 3 else 2_000_000
+    loads = [line for line in lines if line["kind"] == "load"]
+    most = 100_000 if len(apps) <= 3 else 2_000_000 if len(loads) < 20 else 4_000_000
     if (size := len(page.encode())) > most:
         return f"{size} bytes of {len(apps)} apps"
 
@@ -143,6 +145,18 @@ def has_message(browser, folder, page):
     browser.open(loud.as_uri())
     if not browser.messages():
         return "a page that breaks its policy has no message in the console"
+
+
+def ageless(browser, _folder, page):
+    """A page says after a minute that it is old, and not before."""
+    browser.open(page.as_uri())
+    found = []
+    for milliseconds in (59_000, 61_000):
+        browser.value(f"document.getAnimations().forEach(it => it.currentTime = {milliseconds})")
+        found.append(browser.value(
+            "getComputedStyle(document.querySelector('p.facts'), '::after').visibility"))
+    if found != ["hidden", "visible"]:
+        return f"its age is {found} before and after a minute"
 
 
 def unstyled(browser, folder, page):

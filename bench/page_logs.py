@@ -137,7 +137,7 @@ def all_logs():
     makers = {"empty": list, "quiet-day": quiet_day, "good-day": good_day, "bad-night": bad_night,
               "hostile": hostile, "many-apps": many_apps, "limits": limits}
     for name, maker in makers.items():
-        wait = LONGEST_WAIT if name == "bad-night" else 1_000_000
+        wait = {"bad-night": LONGEST_WAIT, "quiet-day": 1_000_000}.get(name, 20_000)
         lines = [*stamped([*with_totals(maker(), wait)])]
         text = b"".join(json.dumps(line).encode() + b"\n" for line in lines)
         yield name, (NO_UTF8 if name == "hostile" else b"") + text, lines

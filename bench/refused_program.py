@@ -139,11 +139,6 @@ def is_partial_status(found, untroubled):
     return found[0] == 1 and found[2].endswith(UNREAD) and all(it in lines for it in shown)
 
 
-def is_partial_page(found, untroubled):
-    """Whether a page was written that names what of the folder isn't on it, for want of memory."""
-    return found[:3] == untroubled[:3] and b"out of memory" in found[3]["PAGE"]
-
-
 def bytes_of(path):
     """A file's bytes, but for the time of a page."""
     return WRITTEN_AT.sub(b"", path.read_bytes()) if path.exists() else None
@@ -214,8 +209,6 @@ def kind(found, untroubled):
         return "out of memory, of the steps"
     if found == untroubled:
         return "done all the same"
-    if is_partial_page(found, untroubled):
-        return "a page that says so"
     raise Wrong(f"{found}")
 
 
