@@ -6,7 +6,7 @@ use Rattle.std.specs.Prelude.{option_copied}
 use Rattle.stage_records.specs.Steps.{ReplacedFile, StagingStep, last_step}
 use Rattle.stage_records.specs.declared.step.StepAction.{StepAction}
 use Rattle.stage_folder.specs.Folders.{IsFree, KnownFolder, KnownRecords}
-use Rattle.stage_folder.specs.Recorded.{AreRecorded, AreRecordsAfter, IsRecorded, MayBeRecorded}
+use Rattle.stage_folder.specs.Recorded.{AreRecordsAfter, IsRecorded, MayBeRecorded}
 use Rattle.stage_folder.specs.Steps.{IsFoundBy, IsPartlyDone, IsPartlyUndone, done}
 use Rattle.stage_folder.specs.Steps.{has_distinct_names, undone}
 use Rattle.stage_folder.specs.declared.folder_fault.RecordFault.{RecordFault}
