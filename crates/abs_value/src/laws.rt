@@ -19,7 +19,7 @@ pub fn numbers_are_kept()
 /// Law: each operation on abstract values includes the machine's result for the numbers that they
 /// include. The operations are arithmetic, MOV, NEG, MOVSX, END, and a load of unknown bytes.
 /// `Number::single` and `Number::up_to` include their numbers.
-pub fn results_are_included()
+pub fn results_sound()
     ensures alu { laws.IncludesResults }
     ensures copied { laws.IncludesCopies }
     ensures negated { laws.IncludesNegations }
@@ -40,7 +40,7 @@ pub fn edges_are_kept()
 
 /// Law: a register whose value is usable is set. Writing a register and narrowing its value cover
 /// the resulting state, and the opening state covers the start of a run.
-pub fn registers_cover()
+pub fn registers_sound()
     ensures registers { laws.RegistersAreThere }
     ensures operands { laws.OperandsAreThere }
     ensures writes { laws.CoversWrites }
@@ -58,20 +58,20 @@ pub fn answers_are_kept()
 
 /// Law: at a conditional jump the edge that a run takes isn't dropped, and the abstract state on it
 /// covers the state. It still covers the state once each copy of a lookup's result is known.
-pub fn lookups_cover()
+pub fn lookups_sound()
     ensures answered { laws.CoversAnswered }
     ensures edges { laws.CoversEdges }
 {}
 
 /// Law: the abstract state after a CALL covers the state after it, for each helper.
-pub fn calls_cover()
+pub fn calls_sound()
     ensures { laws.CoversCalls }
 {
     numbers_are_within();
 }
 
 /// Law: a join represents all that either side represents.
-pub fn joins_cover()
+pub fn joins_sound()
     ensures first { laws.CoversFirst }
     ensures second { laws.CoversSecond }
 {}
@@ -83,12 +83,12 @@ pub fn joins_commute()
 
 /// Law: a store within the stack is possible, and the abstract state after it covers the state
 /// after it.
-pub fn stores_cover()
+pub fn stores_sound()
     ensures { laws.CoversStores }
 {}
 
 /// Law: a load within the stack of bytes that are all set reads a number that its value includes.
-pub fn loads_cover()
+pub fn loads_sound()
     ensures { laws.CoversLoads }
 {}
 
@@ -98,7 +98,7 @@ pub fn bytes_are_there()
 {}
 
 /// Law: if the ends of values are in order, each operation gives a value whose ends are in order.
-pub fn values_stay_in_order()
+pub fn values_monotone()
     ensures alu { ranges.ResultsInOrder }
     ensures copied { ranges.CopiesInOrder }
     ensures negated { ranges.NegationsInOrder }
@@ -112,7 +112,7 @@ pub fn values_stay_in_order()
 {}
 
 /// Law: if all ends in states are in order, each operation gives a state in which they are.
-pub fn states_stay_in_order()
+pub fn states_monotone()
     ensures opening { ranges.OpeningInOrder }
     ensures operands { ranges.OperandsInOrder }
     ensures writes { ranges.WritesInOrder }

@@ -91,9 +91,9 @@ mod value;
 pub use interval::Interval;
 pub use known_bits::KnownBits;
 pub use laws::{
-    answers_are_kept, bytes_are_there, calls_cover, edges_are_kept, joins_commute, joins_cover,
-    loads_cover, lookups_cover, numbers_are_kept, registers_cover, results_are_included,
-    states_stay_in_order, stores_cover, values_stay_in_order,
+    answers_are_kept, bytes_are_there, calls_sound, edges_are_kept, joins_commute, joins_sound,
+    loads_sound, lookups_sound, numbers_are_kept, registers_sound, results_sound, states_monotone,
+    stores_sound, values_monotone,
 };
 pub use lookups::compares_with_zero;
 pub use number::Number;

@@ -4,9 +4,8 @@
 ghost use Rattle.bpf_checks.specs.Sound as sound;
 
 use abs_value::{
-    answers_are_kept, bytes_are_there, calls_cover, joins_cover, loads_cover, lookups_cover,
-    registers_cover, results_are_included, states_stay_in_order, stores_cover,
-    values_stay_in_order,
+    answers_are_kept, bytes_are_there, calls_sound, joins_sound, loads_sound, lookups_sound,
+    registers_sound, results_sound, states_monotone, stores_sound, values_monotone,
 };
 
 /// Law: a step from a represented state, at an instruction that breaks no rule, is safe. It doesn't
@@ -15,13 +14,13 @@ use abs_value::{
 pub fn steps_are_safe()
     ensures { sound.EveryStepIsSafe }
 {
-    results_are_included();
-    registers_cover();
+    results_sound();
+    registers_sound();
     answers_are_kept();
-    lookups_cover();
-    calls_cover();
-    stores_cover();
-    loads_cover();
+    lookups_sound();
+    calls_sound();
+    stores_sound();
+    loads_sound();
     bytes_are_there();
 }
 
@@ -32,15 +31,15 @@ pub fn states_are_represented()
     ensures second { sound.JoinRepresentsSecond }
     ensures opening { sound.OpeningIsRepresented }
 {
-    joins_cover();
-    registers_cover();
+    joins_sound();
+    registers_sound();
 }
 
 /// Law: if all ends in a state are in order, they are in order on each edge from it.
-pub fn edges_stay_in_order()
+pub fn edges_monotone()
     ensures jumping { sound.JumpingInOrder }
     ensures going_on { sound.GoingOnInOrder }
 {
-    values_stay_in_order();
-    states_stay_in_order();
+    values_monotone();
+    states_monotone();
 }

@@ -45,7 +45,7 @@ mod transfer;
 
 pub use compared::Compared;
 pub use jumps::is_lookup_check;
-pub use laws::{edges_stay_in_order, states_are_represented, steps_are_safe};
+pub use laws::{edges_monotone, states_are_represented, steps_are_safe};
 pub use memory::stack_place;
 pub use refusal::{Refusal, VerifierRule};
 pub use rules::first_rule;

@@ -6,8 +6,8 @@ ghost use Rattle.bpf_semantics.specs.Program.{ShapedProgram};
 ghost use Rattle.cells.specs.Arrays.{AppShape};
 ghost use Rattle.bpf_verify.specs.Accepted.{ProgramHasOneVerdict, HasEndsInOrder};
 
-use abs_value::states_stay_in_order;
-use bpf_checks::edges_stay_in_order;
+use abs_value::states_monotone;
+use bpf_checks::edges_monotone;
 
 /// Law: under a shape, a program is accepted, or refused at one slot by one rule.
 pub fn one_verdict()
@@ -15,9 +15,9 @@ pub fn one_verdict()
 {}
 
 /// Law: the ends of all abstract values before an instruction are in order.
-pub fn ends_are_in_order()
+pub fn ends_monotone()
     ensures { (p : ShapedProgram) → HasEndsInOrder p }
 {
-    states_stay_in_order();
-    edges_stay_in_order();
+    states_monotone();
+    edges_monotone();
 }

@@ -35,7 +35,7 @@ mod walk;
 
 pub use bpf_checks::{Refusal, VerifierRule};
 pub use cells::Shape;
-pub use laws::{ends_are_in_order, one_verdict};
+pub use laws::{ends_monotone, one_verdict};
 pub use table::table_is_enough;
 pub use verified::{Verified, verify, verify_counted};
 pub use walk::{Walk, end_is_accepted};

@@ -17,7 +17,7 @@ use Rattle.atomic_table.proofs.Lists.{at_set}
 use Rattle.ceilings.specs.declared.rule.Known.{Known}
 use Rattle.ceilings.specs.declared.rule.Raised.{Raised}
 use Rattle.ceilings.specs.Rule.{raised_as, writer_of, raised_in, Looks, Raises, KnowsSome, HasLog}
-use Rattle.ceilings.specs.Rule.{CeilingsGrow}
+use Rattle.ceilings.specs.Rule.{CeilingsMonotone}
 
 -- ---- raises
 
@@ -34,7 +34,7 @@ longer c (y ∷ log) more = step (y.cell == c) y.number (longer c log more)
     step true n le = omega (arith, le)
     step false n le = le
 
-pub grows : CeilingsGrow
+pub grows : CeilingsMonotone
 grows c old new h =
     subst (λ (l : List Raised). raised_in c old ≤ raised_in c l) h.1 (longer c old h.0)
 

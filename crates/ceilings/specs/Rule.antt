@@ -30,8 +30,8 @@ raised_in cell (x ∷ log) =
     if x.cell == cell then max x.number (raised_in cell log) else raised_in cell log
 
 -- it doesn't fall as ceilings are raised
-abbrev pub CeilingsGrow : Type 0
-CeilingsGrow = (cell : ℕ) (old new : List Raised) → IsPrefix old new
+abbrev pub CeilingsMonotone : Type 0
+CeilingsMonotone = (cell : ℕ) (old new : List Raised) → IsPrefix old new
     → raised_in cell old ≤ raised_in cell new
 
 -- a look finds at most what was raised by then

@@ -22,5 +22,5 @@ mod laws;
 mod rule;
 
 pub use ceilings::{Ceilings, Reader, Writer};
-pub use laws::ceilings_grow;
+pub use laws::ceilings_monotone;
 pub use rule::Raised;

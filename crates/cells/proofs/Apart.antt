@@ -10,7 +10,7 @@ use Rattle.std.proofs.lemmas.Slice.Eq.{bytes_eq-Decides}
 use Rattle.cells.specs.declared.array.CellArray.{CellArray}
 use Rattle.cells.specs.declared.array.CellWidth.{CellWidth}
 use Rattle.cells.specs.Apart.{ArraysLieApart, QuotasAreWide, NamedArraysAreThere}
-use Rattle.cells.specs.Apart.{NumberedArraysAreNamed, ArraysStay}
+use Rattle.cells.specs.Apart.{NumberedArraysAreNamed, ArraysPreserved}
 use Rattle.cells.specs.Arrays.{first_cell}
 use Rattle.cells.specs.Directory.{HasDistinctNames, array_named, HasArray}
 use Rattle.cells.proofs.OneWay.{place_of}
@@ -111,7 +111,7 @@ found_still name (b ∷ old) more a is =
     by_name false e go =
         found_by name b (old ++ more) false e ∙ go (sym (found_by name b old false e) ∙ is)
 
-pub stay : ArraysStay
+pub stay : ArraysPreserved
 stay old new a grown has =
     subst (λ (arrays : List CellArray). HasArray arrays a) grown.1
     (found_still a.name old grown.0 a has)

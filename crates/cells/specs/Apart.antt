@@ -33,6 +33,6 @@ NumberedArraysAreNamed =
     → All (HasArray directory) arrays
 
 -- if one directory is a prefix of another, the other has all its arrays
-abbrev pub ArraysStay : Type 0
-ArraysStay = (old new : List CellArray) (a : CellArray) → IsPrefix old new → HasArray old a
+abbrev pub ArraysPreserved : Type 0
+ArraysPreserved = (old new : List CellArray) (a : CellArray) → IsPrefix old new → HasArray old a
     → HasArray new a

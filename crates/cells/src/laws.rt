@@ -1,6 +1,6 @@
 //! Laws of all declarations and directories, by the definitions only.
 
-ghost use Rattle.cells.specs.Apart.{ArraysLieApart, ArraysStay, NamedArraysAreThere};
+ghost use Rattle.cells.specs.Apart.{ArraysLieApart, ArraysPreserved, NamedArraysAreThere};
 ghost use Rattle.cells.specs.Apart.{NumberedArraysAreNamed, QuotasAreWide};
 ghost use Rattle.cells.specs.OneWay.{DeclareOneWay, KeepsDirectory, KeepsNames};
 
@@ -20,8 +20,8 @@ pub fn arrays_lie_apart()
 
 /// Law: the arrays of a directory are those that it has by name, and each longer directory also has
 /// them.
-pub fn arrays_stay()
+pub fn arrays_preserved()
     ensures there { NamedArraysAreThere }
     ensures numbered { NumberedArraysAreNamed }
-    ensures stay { ArraysStay }
+    ensures stay { ArraysPreserved }
 {}

@@ -18,7 +18,7 @@ pub use array::{ArrayName, ArrayNo, CellArray, CellWidth};
 pub use cells_fault::CellsFault;
 pub use directory::Directory;
 pub use event::{CellEvent, CellNo, CellOp};
-pub use laws::{arrays_lie_apart, arrays_stay, declares_one_way};
+pub use laws::{arrays_lie_apart, arrays_preserved, declares_one_way};
 pub use plain::{PlainCells, PlainPass};
 pub use shape::Shape;
 pub use steps::{CellSteps, growth};

@@ -6,7 +6,7 @@ ghost use Rattle.halts.specs.Halts.{ResumeLifts, ServesAll};
 /// Law. Of a halted app each run ends with 0 and without an event on counters, for each request. An
 /// app that isn't halted has the program, the releases and the place that it had. No app is added,
 /// removed or renamed, and the programs know no further array.
-pub fn halts_are_so()
+pub fn halts_sound()
     ensures held { HaltedAreHeld }
     ensures others { OthersStay }
     ensures apps { KeepsApps }

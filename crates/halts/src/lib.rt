@@ -11,5 +11,5 @@ mod none;
 
 pub use halted_list::{is_halted, with_halted, without_halted};
 pub use halting::served_rules;
-pub use laws::halts_are_so;
+pub use laws::halts_sound;
 pub use none::none_program;

@@ -4,7 +4,7 @@ ghost use Rattle.hot_swap.specs.Published.{HasOneRuleset, NeverGoesBack, Shorter
 
 /// Law: in one published list generations never go back, and each has one ruleset. Of two prefixes
 /// of the list, the shorter is a prefix of the longer.
-pub fn generations_go_onwards()
+pub fn generations_monotone()
     ensures back { NeverGoesBack }
     ensures one { HasOneRuleset }
     ensures begins { ShorterBegins }

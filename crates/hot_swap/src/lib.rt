@@ -28,7 +28,7 @@ mod swap_fault;
 mod watcher;
 
 pub use known_prefix::Generation;
-pub use laws::generations_go_onwards;
+pub use laws::generations_monotone;
 pub use notice::Notice;
 pub use publisher::Publisher;
 pub use swap_fault::SwapFault;

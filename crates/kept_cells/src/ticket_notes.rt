@@ -11,7 +11,7 @@ ghost use Rattle.kept_cells.specs.Tickets.{is_ticket, AreCovered};
 ghost use Rattle.kept_cells.specs.Noted.{AreNotes, AreReached, IsReached, Notes, NotesOneMore};
 
 use crate::kept::Kept;
-use ceilings::{Reader, ceilings_grow};
+use ceilings::{Reader, ceilings_monotone};
 use cells::{CellNo, CellOp};
 use std::alloc::{AllocError, Global};
 use std::marker::Model;
@@ -157,7 +157,7 @@ impl TicketNotes {
         ensures reached { IsTrue result
             → AreReached self.now.above self.now.least reader.new.raised }
     {
-        ceilings_grow();
+        ceilings_monotone();
         for cell in self.low..self.high {
             let above = self.above[cell];
             if above > 0 && !is_cell_reached(kept, reader, cell, above, self.least[cell]) {

@@ -17,7 +17,7 @@ use crate::load_fault::LoadFault;
 use crate::made::{judge_sources, make_ruleset};
 use crate::refusal::SourcesRefusal;
 use crate::sources::collect_sources;
-use cells::{Directory, arrays_stay};
+use cells::{Directory, arrays_preserved};
 use ruleset::{LoadedRuleset, Ruleset};
 use std::alloc::Global;
 
@@ -120,7 +120,7 @@ pub(crate) fn load_bytes<F: Files>(
 {
     sources_are_loaded();
     sources_are_made();
-    arrays_stay();
+    arrays_preserved();
     let sources = match collect_sources(alloc, manifest, files, directory) {
         Ok(sources) => sources,
         Err(refused_sources) => return Err(refused(alloc, directory, refused_sources)),

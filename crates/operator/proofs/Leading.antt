@@ -3,7 +3,7 @@ use Rattle.std.proofs.Common.{List, [], ◌∷◌, ◌++◌, All, refl, sym, ap,
 use Rattle.std.proofs.Common.{append_assoc, append-nil, Option, ℕ}
 use Rattle.std.proofs.lemmas.List.Elements.{All-append, All-nil, All-push, All-same, All-weaker}
 use mathlib.Core.List.{IsPrefix}
-use Rattle.cells.specs.Apart.{ArraysStay}
+use Rattle.cells.specs.Apart.{ArraysPreserved}
 use Rattle.cells.specs.Directory.{HasArray}
 use Rattle.cells.specs.declared.array.CellArray.{CellArray}
 use Rattle.cells.specs.declared.event.CellEvent.{CellEvent}
@@ -39,7 +39,7 @@ of_arrays (one_array {arrays} {before} {events} first next) =
     All-append IsLoad before events (of_arrays first) (of_cells next)
 
 -- what knows only a prefix of the arrays knows only the arrays
-knows_more : ArraysStay → (old new : List CellArray) → IsPrefix old new → (rules : Rules)
+knows_more : ArraysPreserved → (old new : List CellArray) → IsPrefix old new → (rules : Rules)
     → KnowsOnly old rules → KnowsOnly new rules
 knows_more law old new grown rules =
     All-weaker (λ (app : AppRule). All (HasArray old) app.program.shape.arrays)
@@ -144,7 +144,7 @@ module _ {F : Type 0} (loads : Loading F) where
   goes_on c m d (one_halt {appids} {generation = n} is) before =
       installs_on c m d (served appids m.last.rules) n is.installed before
 
-  keeps_on : ArraysStay → KeepsArrays → (m d : Controlled) → Changes m d → KnowOnlyItsArrays m
+  keeps_on : ArraysPreserved → KeepsArrays → (m d : Controlled) → Changes m d → KnowOnlyItsArrays m
       → KnowOnlyItsArrays d
   keeps_on law keeps m d nothing only = only
   keeps_on law keeps m d one_stop only = record {
@@ -194,7 +194,7 @@ module _ {F : Type 0} (loads : Loading F) where
       (goes {d = m} {lines = before} {before = made} {events} {request} {reply} led is) =
       goes_on c m d (changes request m d events reply is) (go_onwards c m before made led)
 
-  pub keep_to_arrays : ArraysStay → KeepsArrays → LinesKeepToArrays loads
+  pub keep_to_arrays : ArraysPreserved → KeepsArrays → LinesKeepToArrays loads
   keep_to_arrays law keeps c d lines reads stays only = only
   keep_to_arrays law keeps c d lines reads
       (goes {d = m} {lines = before} {before = made} {events} {request} {reply} led is) only =

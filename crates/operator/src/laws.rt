@@ -4,8 +4,8 @@ ghost use Rattle.operator.specs.Leading.{HaltsHold, LinesGoOnwards, LinesKeepToA
 ghost use Rattle.operator.specs.Leading.{LinesOnlyRead, LinesServeLoads};
 
 use crate::loader::Loader;
-use cells::arrays_stay;
-use halts::halts_are_so;
+use cells::arrays_preserved;
+use halts::halts_sound;
 
 /// Law. Answered lines only append to what is published. Programs that know only a server's arrays
 /// still do so afterwards, and the counters were only read.
@@ -15,8 +15,8 @@ pub fn loads_go_on<L: Loader>(loader: &L)
     ensures reads { LinesOnlyRead (L.loads loader.now) }
 {
     let _loader = loader;
-    arrays_stay();
-    halts_are_so();
+    arrays_preserved();
+    halts_sound();
 }
 
 /// Law. A halt holds, whatever is loaded, until a line resumes the app. If what is served is the
@@ -26,5 +26,5 @@ pub fn halts_hold<L: Loader>(loader: &L)
     ensures serve { LinesServeLoads (L.loads loader.now) }
 {
     let _loader = loader;
-    halts_are_so();
+    halts_sound();
 }

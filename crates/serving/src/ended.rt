@@ -8,7 +8,7 @@ ghost use Rattle.shared_cells.specs.Quotas.{QuotasAreExact};
 ghost use Rattle.serving.specs.Ended.{IsOfServer, passes_of};
 
 use cells::Directory;
-use hot_swap::{Generation, Notice, Watcher, generations_go_onwards};
+use hot_swap::{Generation, Notice, Watcher, generations_monotone};
 use kept_cells::KeptPass;
 use shared_cells::{Closed, SharedCells, SharedPass};
 use workers::Returned;
@@ -83,7 +83,7 @@ fn pass_of(
     ensures same { result.0 ≡ worker.0 }
     ensures prefix { IsTrue result.1 → IsPrefix worker.1.rulesets published.now.rulesets }
 {
-    generations_go_onwards();
+    generations_monotone();
     let (pass, mut watcher) = worker;
     let pass = pass.into_pass();
     watcher.learn(published);

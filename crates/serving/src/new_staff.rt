@@ -15,7 +15,7 @@ use crate::serving_fault::ServingFault;
 use crate::staffed::StaffedServer;
 use crate::worker_list::worker_list;
 use bounded_files::ResourceFault;
-use halts::{halts_are_so, served_rules};
+use halts::{halts_sound, served_rules};
 use hot_swap::Publisher;
 use operator::{Control, LastLoad};
 use ruleset::{LoadedRuleset, Ruleset};
@@ -91,7 +91,7 @@ where
     ensures workers { IfOk result (λ s. length s.workers.items ≡ workers) }
     ensures fault { IfErr result IsStaffFault }
 {
-    halts_are_so();
+    halts_sound();
     let alloc = rt.alloc();
     let LoadedRuleset {
         rules,

@@ -2,7 +2,7 @@
 
 ghost use Rattle.thread_laws.specs.Quotas.{ThreadsGrantQuotas, ThreadsKeepQuotas};
 
-use cells::{arrays_lie_apart, arrays_stay, events_fit};
+use cells::{arrays_lie_apart, arrays_preserved, events_fit};
 
 /// Law: threads only load a quota's cell and add 1 to it, if no program of their rulesets has the
 /// cell in an array without a quota. If the cell has 64 bits, and the additions are fewer than
@@ -25,5 +25,5 @@ pub fn threads_grant_quotas()
 {
     threads_keep_quotas();
     arrays_lie_apart();
-    arrays_stay();
+    arrays_preserved();
 }

@@ -9,7 +9,7 @@ ghost use Rattle.warnings.specs.Runs.{WhensAreSo};
 /// or on a release denies. Some run does what a warning on a version says. A test holds for the
 /// part of the buckets that the warning on it names.
 // open: that counters can reply as assumed: 0 each time, also if a rule takes twice from one cell.
-pub fn warnings_are_so()
+pub fn warnings_sound()
     ensures whens { WhensAreSo }
     ensures releases { ReleasesAreSo }
     ensures versions { VersionsAreSo }

@@ -57,7 +57,7 @@ mod whens;
 
 pub use appid::push_appid_warning;
 pub use evaluating::EvaluatedRule;
-pub use laws::{warnings_are_named, warnings_are_so};
+pub use laws::{warnings_are_named, warnings_sound};
 pub use release::push_release_warnings;
 pub use rule_warnings::push_rule_warnings;
 pub use warning::{Warning, WarningKind, WarningPlace, warn_if};

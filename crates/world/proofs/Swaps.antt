@@ -8,7 +8,7 @@ use Rattle.ruleset.specs.Rules.{Rules, IsRuleset}
 use Rattle.world.specs.World.{WorldState, ruleset_at, with_ruleset}
 use Rattle.world.specs.Happens.{Answer, Happens}
 use Rattle.world.specs.Headline.{IsApplied}
-use Rattle.world.specs.Course.{RulesetsStay}
+use Rattle.world.specs.Course.{RulesetsPreserved}
 use Rattle.world.specs.Seats.{SeatIsOffered}
 use Rattle.world.specs.Represents.{Parts, AreSoundParts, parts_of, seat_at}
 use Rattle.world.specs.declared.seat.Seat.{Seat}
@@ -87,10 +87,10 @@ stays_at w u (Finish k) (Err f) number rules h is = rw h.1 is
 stays_at w u (Swap swapped) (Err f) number rules h is = rw h.1 is
 stays_at w u e (Ok a) number rules h is = absurd h
 
-pub rulesets_stay : RulesetsStay
-rulesets_stay w v [] [] number rules plays is = rw plays is
-rulesets_stay w v (e ∷ es) (r ∷ rs) number rules plays is =
-    rulesets_stay plays.0 v es rs number rules plays.2
+pub rulesets_preserved : RulesetsPreserved
+rulesets_preserved w v [] [] number rules plays is = rw plays is
+rulesets_preserved w v (e ∷ es) (r ∷ rs) number rules plays is =
+    rulesets_preserved plays.0 v es rs number rules plays.2
     (stays_at w plays.0 e r number rules plays.1 is)
-rulesets_stay w v [] (r ∷ rs) number rules plays is = absurd plays
-rulesets_stay w v (e ∷ es) [] number rules plays is = absurd plays
+rulesets_preserved w v [] (r ∷ rs) number rules plays is = absurd plays
+rulesets_preserved w v (e ∷ es) [] number rules plays is = absurd plays

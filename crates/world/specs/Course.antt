@@ -12,7 +12,7 @@ HasOneCourse = (w u v : WorldState) (events : List Event) (answers : List Answer
     → IsSafeWorld w → Plays w events answers u → Plays w events answers v → u ≡ v
 
 -- a number refers to the same ruleset for good
-abbrev pub RulesetsStay : Type 0
-RulesetsStay = (w v : WorldState) (events : List Event) (answers : List Answer) (number : ℕ)
+abbrev pub RulesetsPreserved : Type 0
+RulesetsPreserved = (w v : WorldState) (events : List Event) (answers : List Answer) (number : ℕ)
     (rules : Rules) → Plays w events answers v
     → ruleset_at w.rulesets number ≡ Some rules → ruleset_at v.rulesets number ≡ Some rules

@@ -3,7 +3,7 @@
 ghost use Rattle.world.specs.InTime.{TakesItsStep, EndsInTime};
 ghost use Rattle.world.specs.OwnRun.{FinishesItsRun, FinishesStartedRun, ChoosesItsRelease};
 ghost use Rattle.world.specs.Batches.{BatchesJoin, BatchesPart};
-ghost use Rattle.world.specs.Course.{HasOneCourse, RulesetsStay};
+ghost use Rattle.world.specs.Course.{HasOneCourse, RulesetsPreserved};
 
 use bpf_semantics::counts_instructions;
 use cells::events_fit;
@@ -37,8 +37,8 @@ pub fn finishes_its_run()
 }
 
 /// Law: events never change which ruleset a number refers to.
-pub fn rulesets_stay()
-    ensures { RulesetsStay }
+pub fn rulesets_preserved()
+    ensures { RulesetsPreserved }
 {}
 
 /// Law: batches of events compose. Two runs of the world, one after the other, are one, and one run

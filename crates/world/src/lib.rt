@@ -13,7 +13,7 @@ mod world;
 
 pub use event::{Effect, Event, WorldFault};
 pub use laws::{
-    batches_compose, ends_in_time, finishes_its_run, one_course, rulesets_stay, takes_its_step,
+    batches_compose, ends_in_time, finishes_its_run, one_course, rulesets_preserved, takes_its_step,
 };
 pub use run::play;
 pub use world::World;

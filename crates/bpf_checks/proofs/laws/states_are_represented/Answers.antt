@@ -3,7 +3,7 @@ use Rattle.bpf_checks.proofs.laws.states_are_represented.Goals as goal
 
 pub returns : goal.returns
 returns c = record {
-  first = first_stands c.joins_cover.ensures.first;
-  second = second_stands c.joins_cover.ensures.second;
-  opening = opening_stands c.registers_cover.ensures.opening;
+  first = first_stands c.joins_sound.ensures.first;
+  second = second_stands c.joins_sound.ensures.second;
+  opening = opening_stands c.registers_sound.ensures.opening;
 }

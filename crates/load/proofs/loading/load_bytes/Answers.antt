@@ -35,7 +35,7 @@ returns-in-Ok-make_ruleset-clause-only g c =
     ∙ c.in-Ok-judge_sources.ensures.judged.directory_is in
     let directory = subst (λ (d : List CellArray). IsDirectory d)
     (c.arrays-arrays.ensures.arrays ∙ sym directory_is) c.arrays-arrays.ensures.directory in
-    knows c.arrays_stay.ensures.numbered _ _ _ _ _ directory
+    knows c.arrays_preserved.ensures.numbered _ _ _ _ _ directory
     (returns-in-Ok-make_ruleset-clause-rules g c)
 
 pub returns-in-Ok-make_ruleset-clause-count : goal.returns-in-Ok-make_ruleset-clause-count

@@ -4,7 +4,7 @@ use Rattle.operator.proofs.laws.halts_hold.Goals as goal
 
 pub returns-clause-hold : goal.returns-clause-hold
 returns-clause-hold g c =
-    let so = c.halts_are_so.ensures in
+    let so = c.halts_sound.ensures in
     halts_hold (g.L.Loader.loads c.args.loader.now) so.held so.adds so.lifts
 
 pub returns-clause-serve : goal.returns-clause-serve

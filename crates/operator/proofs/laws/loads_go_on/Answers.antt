@@ -6,8 +6,8 @@ returns-clause-onwards g c = go_onwards (g.L.Loader.loads c.args.loader.now)
 
 pub returns-clause-only : goal.returns-clause-only
 returns-clause-only g c =
-    keep_to_arrays (g.L.Loader.loads c.args.loader.now) c.arrays_stay.ensures.stay
-    c.halts_are_so.ensures.arrays
+    keep_to_arrays (g.L.Loader.loads c.args.loader.now) c.arrays_preserved.ensures.stay
+    c.halts_sound.ensures.arrays
 
 pub returns-clause-reads : goal.returns-clause-reads
 returns-clause-reads g c = only_read (g.L.Loader.loads c.args.loader.now)

@@ -8,5 +8,5 @@ returns-in-Ok-clause-prefix c = λ known.
     let newest = c.in-Ok.ensures.newest in
     let size = c.requires.generation in
     let less : c.in-Ok.seen ≤ c.args.generation = leb-true _ _ known in
-    reads_published c.generations_go_onwards.ensures.begins _ _ _ _ _ _ c.learn.ensures.onwards
+    reads_published c.generations_monotone.ensures.begins _ _ _ _ _ _ c.learn.ensures.onwards
     c.learn.ensures.noticed c.in-Ok.ensures.onwards newest (omega (arith, size, less))

@@ -30,7 +30,7 @@ invariant_of-result g c =
     let room = c.in_ok-room.ensures.capacity in
     record {
       staff = is;
-      only = knows_first c.halts_are_so.ensures.arrays c.new-in-Ok-worker_list.result
+      only = knows_first c.halts_sound.ensures.arrays c.new-in-Ok-worker_list.result
           c.args.loaded.directory c.args.loaded.rules halted c.new-in-Ok-worker_list.ensures.arrays
           (ap (λ (l : LastLoad). l.rules) c.new-in-Ok-worker_list.ensures.last
           ∙ rules.loaded)

@@ -1,5 +1,0 @@
-use Rattle.abs_value.proofs.Loads.{covers_load}
-use Rattle.abs_value.proofs.laws.loads_cover.Goals as goal
-
-pub returns : goal.returns
-returns c = covers_load

@@ -1,5 +1,0 @@
-use Rattle.ceilings.proofs.Steps.{grows}
-use Rattle.ceilings.proofs.laws.ceilings_grow.Goals as goal
-
-pub returns : goal.returns
-returns c = grows
