@@ -1,6 +1,7 @@
 -- Manifests that are simulated: each is loaded over no arrays and evaluated for the clients in all
 -- buckets. Running out of memory is always allowed.
 use Rattle.std.specs.Prelude.{◌≡◌, ℕ, List, [], Option, Some, None, IsSome, is_none}
+use Rattle.std.specs.Prelude.{option_copied}
 use Rattle.std.specs.Prelude.{Bool, true, false, is_some}
 use Rattle.std.specs.String.{string_bytes}
 use Rattle.simulate.specs.Moving.{is_lossy}
@@ -19,6 +20,7 @@ use Rattle.cells.specs.declared.array.CellArray.{CellArray}
 use Rattle.ruleset.specs.Rules.{Rules, app_in}
 use Rattle.cli_manifests.specs.declared.manifest_tool_fault.ManifestToolFault.{ManifestToolFault}
 use Rattle.cli_manifests.specs.declared.manifest_tool_fault.ManifestToolFault.TheVariants as fault
+use Rattle.cli_manifests.specs.declared.simulation_options.SimulationOptions.{SimulationOptions}
 use Rattle.cli_manifests.specs.declared.simulation_output.SimulationOutput.{SimulationOutput}
 
 -- ---- the report on rulesets
@@ -49,34 +51,37 @@ IsTextAgainst false now next text = Unit {0}
 IsTextAgainst true now next text = text ≡ json_line (comparison_object now next)
 
 -- the report on a simulation, and a picture, if a file is named for it
-pub record FormatsAlone (json : Bool) (next : Simulation) (file : Option (List ℕ))
+pub record FormatsAlone (next : Simulation) (options : SimulationOptions)
     (output : SimulationOutput) : Type 0 where
-  pub text_is : IsTextAlone json next (string_bytes output.text)
-  pub picture : HasPicture (is_some file) output.picture
+  pub text_is : IsTextAlone options.json next (string_bytes output.text)
+  pub picture : HasPicture (is_some (option_copied options.picture)) output.picture
   pub loses_is : output.loses ≡ false
 
 -- compared with another one
-pub record FormatsAgainst (json : Bool) (next now : Simulation) (file : Option (List ℕ))
+pub record FormatsAgainst (next now : Simulation) (options : SimulationOptions)
     (output : SimulationOutput) : Type 0 where
-  pub text_is : IsTextAgainst json now next (string_bytes output.text)
-  pub picture : HasPicture (is_some file) output.picture
+  pub text_is : IsTextAgainst options.json now next (string_bytes output.text)
+  pub picture : HasPicture (is_some (option_copied options.picture)) output.picture
   pub loses_is : output.loses ≡ is_lossy now next
 
--- the report on a single ruleset
-pub record ShowsAlone (json : Bool) (client : Client) (rules : Rules)
-    (appid file : Option (List ℕ)) (output : SimulationOutput) : Type 0 where
-  pub next : Simulation
-  pub simulated : IsSimulationBy client rules appid next
-  pub formats : FormatsAlone json next file output
+module _ (client : Client) (options : SimulationOptions) where
+  -- what the clients get by a ruleset, of the reported apps
+  abbrev pub IsReported : Rules → Simulation → Type 0
+  IsReported rules s = IsSimulationBy client rules (option_copied options.appid) s
 
--- the report on a ruleset compared with another one
-pub record ShowsAgainst (json : Bool) (client : Client) (rules serving : Rules)
-    (appid file : Option (List ℕ)) (output : SimulationOutput) : Type 0 where
-  pub next : Simulation
-  pub simulated : IsSimulationBy client rules appid next
-  pub now : Simulation
-  pub served : IsSimulationBy client serving appid now
-  pub formats : FormatsAgainst json next now file output
+  -- the report on a single ruleset
+  pub record ShowsAlone (rules : Rules) (output : SimulationOutput) : Type 0 where
+    pub next : Simulation
+    pub simulated : IsReported rules next
+    pub formats : FormatsAlone next options output
+
+  -- the report on a ruleset compared with another one
+  pub record ShowsAgainst (rules serving : Rules) (output : SimulationOutput) : Type 0 where
+    pub next : Simulation
+    pub simulated : IsReported rules next
+    pub now : Simulation
+    pub served : IsReported serving now
+    pub formats : FormatsAgainst next now options output
 
 -- ---- manifests
 
@@ -85,54 +90,55 @@ module _ (known : KnownFiles) where
   abbrev pub IsLoadedAlone : (path : List ℕ) → Rules → Type 0
   IsLoadedAlone path rules = (arrays : List CellArray) × IsLoadedFrom known path [] rules arrays
 
-  -- the ruleset of a manifest that has the one app that is to be reported
-  abbrev pub IsLoadedFor : (path : List ℕ) → (appid : Option (List ℕ)) → Rules → Type 0
-  IsLoadedFor path appid rules = IsLoadedAlone path rules × (lacks_app appid rules ≡ false)
+  -- the ruleset of the manifest, which has the one app that is to be reported
+  abbrev pub IsLoadedFor : SimulationOptions → Rules → Type 0
+  IsLoadedFor options rules =
+      IsLoadedAlone options.manifest.now rules
+      × (lacks_app (option_copied options.appid) rules ≡ false)
 
-  -- the report on a simulation, and its picture
-  abbrev pub HasSimulated : (json : Bool) → Client → (manifest : List ℕ)
-      → (against appid file : Option (List ℕ)) → SimulationOutput → Type 0
-  HasSimulated json client manifest None appid file output =
-      (rules : Rules) × IsLoadedFor manifest appid rules
-      × ShowsAlone json client rules appid file output
-  HasSimulated json client manifest (Some path) appid file output =
-      (rules : Rules) × IsLoadedFor manifest appid rules
+  -- the report, alone or compared with the manifest of a path, and its picture
+  abbrev pub HasReport : (against : Option (List ℕ)) → Client → SimulationOptions
+      → SimulationOutput → Type 0
+  HasReport None client options output =
+      (rules : Rules) × IsLoadedFor options rules × ShowsAlone client options rules output
+  HasReport (Some path) client options output =
+      (rules : Rules) × IsLoadedFor options rules
       × (serving : Rules) × IsLoadedAlone path serving
-      × ShowsAgainst json client rules serving appid file output
+      × ShowsAgainst client options rules serving output
+
+  abbrev pub HasSimulated : Client → SimulationOptions → SimulationOutput → Type 0
+  HasSimulated client options output =
+      HasReport (option_copied options.against) client options output
 
   -- the other manifest can't be loaded, and the first one can
-  abbrev pub RefusesAgainst : (manifest : List ℕ) → (against appid : Option (List ℕ))
-      → PathFault → Type 0
-  RefusesAgainst manifest None appid why = ⊥
-  RefusesAgainst manifest (Some path) appid why =
-      (rules : Rules) × IsLoadedFor manifest appid rules × RefusesPath known path [] why
+  abbrev pub RefusesAgainst : (against : Option (List ℕ)) → SimulationOptions → PathFault → Type 0
+  RefusesAgainst None options why = ⊥
+  RefusesAgainst (Some path) options why =
+      (rules : Rules) × IsLoadedFor options rules × RefusesPath known path [] why
 
   -- the manifest is loaded, and lacks the app
-  abbrev pub LacksApp : (manifest : List ℕ) → (appid : Option (List ℕ)) → Type 0
-  LacksApp manifest appid =
-      (rules : Rules) × IsLoadedAlone manifest rules × (lacks_app appid rules ≡ true)
+  abbrev pub LacksApp : SimulationOptions → Type 0
+  LacksApp options =
+      (rules : Rules) × IsLoadedAlone options.manifest.now rules
+      × (lacks_app (option_copied options.appid) rules ≡ true)
 
   -- a manifest can't be loaded, or the first lacks the app
-  abbrev pub IsLoadRefusal : (manifest : List ℕ) → (against appid : Option (List ℕ))
-      → ManifestToolFault → Type 0
-  IsLoadRefusal manifest against appid (fault.Load why) = RefusesPath known manifest [] why
-  IsLoadRefusal manifest against appid fault.NoApp = LacksApp manifest appid
-  IsLoadRefusal manifest against appid (fault.Against why) =
-      RefusesAgainst manifest against appid why
-  IsLoadRefusal manifest against appid (fault.Resource resource.Memory) = Unit {0}
-  IsLoadRefusal manifest against appid refused = ⊥
+  abbrev pub IsLoadRefusal : SimulationOptions → ManifestToolFault → Type 0
+  IsLoadRefusal options (fault.Load why) = RefusesPath known options.manifest.now [] why
+  IsLoadRefusal options fault.NoApp = LacksApp options
+  IsLoadRefusal options (fault.Against why) =
+      RefusesAgainst (option_copied options.against) options why
+  IsLoadRefusal options (fault.Resource resource.Memory) = Unit {0}
+  IsLoadRefusal options refused = ⊥
 
   -- a file is named for the picture, which can't be written; the manifests are loaded
-  pub record IsPictureRefusal (json : Bool) (client : Client) (manifest : List ℕ)
-      (against appid file : Option (List ℕ)) : Type 0 where
-    pub named : IsSome file
+  pub record IsPictureRefusal (client : Client) (options : SimulationOptions) : Type 0 where
+    pub named : IsSome (option_copied options.picture)
     pub output : SimulationOutput
-    pub simulated : HasSimulated json client manifest against appid file output
+    pub simulated : HasSimulated client options output
 
   -- the manifests give no report, or the picture can't be written
-  abbrev pub IsSimulationRefusal : (json : Bool) → Client → (manifest : List ℕ)
-      → (against appid file : Option (List ℕ)) → ManifestToolFault → Type 0
-  IsSimulationRefusal json client manifest against appid file (fault.Resource resource.File) =
-      IsPictureRefusal json client manifest against appid file
-  IsSimulationRefusal json client manifest against appid file refused =
-      IsLoadRefusal manifest against appid refused
+  abbrev pub IsSimulationRefusal : Client → SimulationOptions → ManifestToolFault → Type 0
+  IsSimulationRefusal client options (fault.Resource resource.File) =
+      IsPictureRefusal client options
+  IsSimulationRefusal client options refused = IsLoadRefusal options refused

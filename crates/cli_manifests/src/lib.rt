@@ -17,10 +17,12 @@ mod client_line;
 mod manifest_tool_fault;
 mod progress_lines;
 mod simulating;
+mod simulation_options;
 mod simulation_output;
 
 pub use check_lines::push_digest;
 pub use checks::{CheckOutput, check_files};
 pub use manifest_tool_fault::ManifestToolFault;
 pub use simulating::simulate_files;
+pub use simulation_options::SimulationOptions;
 pub use simulation_output::SimulationOutput;

@@ -9,6 +9,7 @@ ghost use Rattle.simulate.specs.Clients.{IsSameButApp};
 use crate::client_line::client_line;
 use crate::manifest_tool_fault::ManifestToolFault;
 use crate::progress_lines::ProgressLines;
+use crate::simulation_options::SimulationOptions;
 use crate::simulation_output::{SimulationOutput, format_against, format_alone};
 use bounded_files::{Disk, ResourceFault, may_write_over, write_file};
 use cells::Directory;
@@ -23,9 +24,7 @@ use std::time::Clock;
 /// What the clients in all buckets get by a manifest, and, if there is another one, what changes
 /// for them compared with it. Each is loaded over no arrays, like a server's first manifest. With
 /// an appid all apps are still evaluated, but only that app is reported. The picture is written
-/// last, into the named file. If it takes over a second, its progress is printed on standard error.
-/// With `json` the report is that of `shares_json` or `moves_json` of `simulate`, otherwise it is
-/// tables.
+/// last. If it takes over a second, its progress is printed on standard error.
 ///
 /// Returns the first fault in this order:
 ///
@@ -39,24 +38,18 @@ use std::time::Clock;
 pub fn simulate_files<R, D>(
     rt: &R,
     disk: &D,
-    manifest: &str,
-    against: Option<&str>,
-    appid: Option<&str>,
-    file: Option<&str>,
-    json: bool,
+    options: &SimulationOptions<'_>,
     client: Client,
 ) -> Result<SimulationOutput, ManifestToolFault>
 where
     R: Files<File = File> + AllocGlobal + Clock + Eprint,
     D: Disk,
-    ensures output { IfOk result (specs.HasSimulated (D.known disk.now) json client manifest.now
-        (option_copied against.entry) (option_copied appid.entry) (option_copied file.entry)) }
-    ensures fault { IfErr result (specs.IsSimulationRefusal (D.known disk.now) json client
-        manifest.now (option_copied against.entry) (option_copied appid.entry)
-        (option_copied file.entry)) }
+    ensures output { IfOk result (specs.HasSimulated (D.known disk.now) client options.now) }
+    ensures fault { IfErr result
+        (specs.IsSimulationRefusal (D.known disk.now) client options.now) }
 {
-    let output = output_for(rt, disk, manifest, against, appid, file, json, client)?;
-    match write_picture(rt, file, &output) {
+    let output = output_for(rt, disk, options, client)?;
+    match write_picture(rt, options.picture, &output) {
         Ok(()) => Ok(output),
         Err(ResourceFault::File) => Err(ManifestToolFault::Resource(ResourceFault::File)),
         Err(ResourceFault::Memory) => Err(ManifestToolFault::Resource(ResourceFault::Memory)),
@@ -91,22 +84,16 @@ where
 fn output_for<R, D>(
     rt: &R,
     disk: &D,
-    manifest: &str,
-    against: Option<&str>,
-    appid: Option<&str>,
-    file: Option<&str>,
-    json: bool,
+    options: &SimulationOptions<'_>,
     mut client: Client,
 ) -> Result<SimulationOutput, ManifestToolFault>
 where
     R: AllocGlobal + Clock + Eprint,
     D: Disk,
-    ensures output { IfOk result (specs.HasSimulated (D.known disk.now) json client manifest.now
-        (option_copied against.entry) (option_copied appid.entry) (option_copied file.entry)) }
-    ensures fault { IfErr result (specs.IsLoadRefusal (D.known disk.now)
-        manifest.now (option_copied against.entry) (option_copied appid.entry)) }
+    ensures output { IfOk result (specs.HasSimulated (D.known disk.now) client options.now) }
+    ensures fault { IfErr result (specs.IsLoadRefusal (D.known disk.now) options.now) }
 {
-    let output = output_of_files(rt, disk, manifest, against, appid, file, json, &mut client);
+    let output = output_of_files(rt, disk, options, &mut client);
     drop(client);
     output
 }
@@ -115,35 +102,29 @@ where
 fn output_of_files<R, D>(
     rt: &R,
     disk: &D,
-    manifest: &str,
-    against: Option<&str>,
-    appid: Option<&str>,
-    file: Option<&str>,
-    json: bool,
+    options: &SimulationOptions<'_>,
     client: &mut Client,
 ) -> Result<SimulationOutput, ManifestToolFault>
 where
     R: AllocGlobal + Clock + Eprint,
     D: Disk,
-    ensures output { IfOk result (specs.HasSimulated (D.known disk.now) json client.old manifest.now
-        (option_copied against.entry) (option_copied appid.entry) (option_copied file.entry)) }
-    ensures fault { IfErr result (specs.IsLoadRefusal (D.known disk.now)
-        manifest.now (option_copied against.entry) (option_copied appid.entry)) }
+    ensures output { IfOk result (specs.HasSimulated (D.known disk.now) client.old options.now) }
+    ensures fault { IfErr result (specs.IsLoadRefusal (D.known disk.now) options.now) }
 {
-    let rules = match load_alone(rt.alloc(), disk, manifest) {
+    let rules = match load_alone(rt.alloc(), disk, options.manifest) {
         Ok(rules) => rules,
         Err(fault) => return Err(ManifestToolFault::Load(fault)),
     };
-    if lacks_app(&rules, appid) {
+    if lacks_app(&rules, options.appid) {
         return Err(ManifestToolFault::NoApp);
     }
-    match against {
-        None => match output_alone(rt, rules, appid, file, json, client) {
+    match options.against {
+        None => match output_alone(rt, rules, options, client) {
             Ok(output) => Ok(output),
             Err(_) => Err(ManifestToolFault::Resource(ResourceFault::Memory)),
         },
         Some(path) => match load_alone(rt.alloc(), disk, path) {
-            Ok(serving) => match output_against(rt, rules, serving, appid, file, json, client) {
+            Ok(serving) => match output_against(rt, rules, serving, options, client) {
                 Ok(output) => Ok(output),
                 Err(_) => Err(ManifestToolFault::Resource(ResourceFault::Memory)),
             },
@@ -181,18 +162,21 @@ fn lacks_app(rules: &Ruleset, appid: Option<&str>) -> bool
 fn output_alone<R>(
     rt: &R,
     rules: Ruleset,
-    appid: Option<&str>,
-    file: Option<&str>,
-    json: bool,
+    options: &SimulationOptions<'_>,
     client: &mut Client,
 ) -> Result<SimulationOutput, AllocError>
 where
     R: AllocGlobal + Clock + Eprint,
-    ensures { IfOk result (specs.ShowsAlone json client.old rules (option_copied appid.entry)
-        (option_copied file.entry)) }
+    ensures { IfOk result (specs.ShowsAlone client.old rules options.now) }
 {
-    let next = simulation_of(rt, rules, appid, client, &mut ProgressLines::new(rt))?;
-    let output = format_alone(rt.alloc(), &next, file, json);
+    let next = simulation_of(
+        rt,
+        rules,
+        options.appid,
+        client,
+        &mut ProgressLines::new(rt),
+    )?;
+    let output = format_alone(rt.alloc(), &next, options);
     drop(next);
     Ok(output?)
 }
@@ -228,21 +212,18 @@ fn output_against<R>(
     rt: &R,
     rules: Ruleset,
     serving: Ruleset,
-    appid: Option<&str>,
-    file: Option<&str>,
-    json: bool,
+    options: &SimulationOptions<'_>,
     client: &mut Client,
 ) -> Result<SimulationOutput, AllocError>
 where
     R: AllocGlobal + Clock + Eprint,
-    ensures { IfOk result (specs.ShowsAgainst json client.old rules serving
-        (option_copied appid.entry) (option_copied file.entry)) }
+    ensures { IfOk result (specs.ShowsAgainst client.old rules serving options.now) }
 {
     let mut progress = ProgressLines::new(rt);
     let clients = client_line(rt.alloc(), client)?;
-    let next = simulation_of(rt, rules, appid, client, &mut progress)?;
-    let now = simulation_of(rt, serving, appid, client, &mut progress)?;
-    let output = format_against(rt.alloc(), &clients, &now, &next, file, json);
+    let next = simulation_of(rt, rules, options.appid, client, &mut progress)?;
+    let now = simulation_of(rt, serving, options.appid, client, &mut progress)?;
+    let output = format_against(rt.alloc(), &clients, &now, &next, options);
     drop(now);
     drop(next);
     Ok(output?)

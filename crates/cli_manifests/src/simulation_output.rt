@@ -5,6 +5,7 @@ ghost use Rattle.std.specs.String.{string_bytes};
 ghost use Rattle.cli_manifests.specs.Simulations as specs;
 ghost use Rattle.markup.specs.WellFormed.{HasPicture};
 
+use crate::simulation_options::SimulationOptions;
 use simulate::{Simulated, draw, is_lossy, moves_json, push_moves, push_shares, shares_json};
 use std::alloc::{AllocError, Global};
 
@@ -23,13 +24,12 @@ pub struct SimulationOutput {
 pub(crate) fn format_alone(
     alloc: Global,
     next: &Simulated,
-    file: Option<&str>,
-    json: bool,
+    options: &SimulationOptions<'_>,
 ) -> Result<SimulationOutput, AllocError>
-    ensures { IfOk result (specs.FormatsAlone json next.now (option_copied file.entry)) }
+    ensures { IfOk result (specs.FormatsAlone next.now options.now) }
 {
-    let text = text_alone(alloc, next, json)?;
-    let picture = picture_if(alloc, file, next)?;
+    let text = text_alone(alloc, next, options.json)?;
+    let picture = picture_if(alloc, options.picture, next)?;
     Ok(SimulationOutput {
         text,
         picture,
@@ -55,14 +55,13 @@ pub(crate) fn format_against(
     clients: &str,
     now: &Simulated,
     next: &Simulated,
-    file: Option<&str>,
-    json: bool,
+    options: &SimulationOptions<'_>,
 ) -> Result<SimulationOutput, AllocError>
-    ensures { IfOk result (specs.FormatsAgainst json next.now now.now (option_copied file.entry)) }
+    ensures { IfOk result (specs.FormatsAgainst next.now now.now options.now) }
 {
-    let text = text_against(alloc, clients, now, next, json)?;
+    let text = text_against(alloc, clients, now, next, options.json)?;
     let loses = is_lossy(alloc, now, next)?;
-    let picture = picture_if(alloc, file, next)?;
+    let picture = picture_if(alloc, options.picture, next)?;
     Ok(SimulationOutput {
         text,
         picture,

@@ -2,7 +2,7 @@
 -- known. The bytes of a device's files aren't known, so an output is one for some bytes. No
 -- contract can say what a server replies, and nothing is claimed for out of memory.
 use Rattle.std.specs.Prelude.{◌≡◌, ◌⊎◌, ◌&&◌, List, ℕ, None, Some, true, false, not}
-use Rattle.std.specs.Prelude.{IsSome, is_some, length, option_copied}
+use Rattle.std.specs.Prelude.{IsSome, is_some, length}
 use Rattle.std.specs.String.{string_bytes}
 use Rattle.bounded_files.specs.Files.{KnownFiles}
 use Rattle.bounded_files.specs.declared.resource_fault.ResourceFault.TheVariants as resource
@@ -18,7 +18,7 @@ use Rattle.cli_inspection.specs.Explanations.{HasExplained, IsExplainRefusal}
 use Rattle.cli_inspection.specs.Orders.{IsOrderedFrom, IsOrderRefusal}
 use Rattle.cli_inspection.specs.Traces.{HasTraced}
 use Rattle.cli_programs.specs.Programs.{IsRunRefusal}
-use Rattle.cli_tool_commands.specs.Clients.{client_of}
+use Rattle.cli_tool_commands.specs.Clients.{client_of, simulation_of}
 use Rattle.cli_tool_commands.specs.Diffs.{HasDiffed, IsDiffRefusal}
 use Rattle.cli_tool_commands.specs.DryRuns.{HasDryRun, IsDryRunRefusal}
 use Rattle.cli_tool_commands.specs.LoggedWhys.{HasLoggedWhy, IsLoggedRefusal}
@@ -72,9 +72,8 @@ module _ (known : KnownFiles) where
       (is_some args.picture) (is_some args.page) report
       × HasServer args (string_bytes server)
   IsOutput (command.Simulate args) (output.Simulated simulation passes) =
-      HasSimulated known args.json (client_of args.app) args.manifest.now
-      (option_copied args.against) (option_copied args.appid) (option_copied args.picture)
-      simulation × (passes ≡ not (args.fail_on_lost && simulation.loses))
+      HasSimulated known (client_of args.app) (simulation_of args) simulation
+      × (passes ≡ not (args.fail_on_lost && simulation.loses))
   -- nothing is known about a folder of a device, nor about its servers
   IsOutput (command.Stage args) (output.Staged outcome) = Unit {0}
   IsOutput (command.Trace run) (output.Traced lines choice instructions) =
@@ -98,8 +97,7 @@ module _ (known : KnownFiles) where
   IsRefused (command.Report args) (fault.Ask why) =
       IsSome args.operator × IsRequestRefusal sent.Cells why
   IsRefused (command.Simulate args) (fault.Manifest why) =
-      IsSimulationRefusal known args.json (client_of args.app) args.manifest.now
-      (option_copied args.against) (option_copied args.appid) (option_copied args.picture) why
+      IsSimulationRefusal known (client_of args.app) (simulation_of args) why
   IsRefused (command.Stage args) (fault.Resource resource.Memory) = Unit {0}
   IsRefused (command.Trace run) (fault.Program why) =
       IsRunRefusal known run.path.now run.shape why

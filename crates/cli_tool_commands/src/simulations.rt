@@ -8,7 +8,7 @@ use crate::output::ToolOutput;
 use crate::tool_fault::Fault;
 use bounded_files::{Disk, ResourceFault};
 use cli_base::AppArgs;
-use cli_manifests::{ManifestToolFault, simulate_files};
+use cli_manifests::{ManifestToolFault, SimulationOptions, simulate_files};
 use cli_tool_words::{SimulateArgs, ToolCommand};
 use simulate::Client;
 use std::alloc::{AllocError, Global};
@@ -32,17 +32,14 @@ where
         let fault = ManifestToolFault::Resource(ResourceFault::Memory);
         return Err(Fault::Manifest(fault));
     };
-    let output = simulate_files(
-        rt,
-        disk,
-        args.manifest,
-        args.against,
-        args.appid,
-        args.picture,
-        args.json,
-        client,
-    );
-    match output {
+    let options = SimulationOptions {
+        manifest: args.manifest,
+        against: args.against,
+        appid: args.appid,
+        picture: args.picture,
+        json: args.json,
+    };
+    match simulate_files(rt, disk, &options, client) {
         Ok(output) => {
             let passes = !(args.fail_on_lost && output.loses);
             Ok(ToolOutput::Simulated { output, passes })

@@ -8,7 +8,7 @@ returns g c = record {
   simulated = c.in_ok-next.ensures.simulated;
   now = c.in_ok-now.now;
   served = simulation_alike c.args.client.now c.simulation_of.new.client c.args.serving
-      (option_copied c.args.appid) c.in_ok-now.now c.simulation_of.ensures.client
+      (option_copied c.args.options.now.appid) c.in_ok-now.now c.simulation_of.ensures.client
       c.in_ok-now.ensures.simulated;
   formats = c.in_ok-output.ensures;
 }
