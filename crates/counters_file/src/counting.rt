@@ -3,7 +3,7 @@
 ghost use Rattle.std.specs.Prelude.{◌≡◌, All, IsTrue};
 ghost use Rattle.counters_file.specs.Lines as specs;
 
-use crate::writing::value_at;
+use crate::saved_counters::value_at;
 use cells::CellArray;
 
 /// Counters with a quota are below this, as quotas are.

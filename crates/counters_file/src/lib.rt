@@ -29,8 +29,8 @@ mod kept_file;
 mod laws;
 mod memory_file;
 mod reading;
+mod saved_counters;
 mod store;
-mod writing;
 
 pub use contents::{Contents, Parts, ReadFault};
 pub use counters_fault::CountersFault;
@@ -39,5 +39,5 @@ pub use kept_file::KeptFile;
 pub use laws::reads_back;
 pub use memory_file::MemoryFile;
 pub use reading::read_contents;
+pub use saved_counters::file_text;
 pub use store::{commit, read_counters, read_of_another};
-pub use writing::file_text;

@@ -13,7 +13,7 @@ use crate::halted::all_can_be_halted;
 use crate::kept_file::KeptFile;
 use crate::laws::reads_back;
 use crate::reading::read_contents;
-use crate::writing::file_text;
+use crate::saved_counters::file_text;
 use cells::Directory;
 use std::alloc::Global;
 use std::fs::File;

@@ -8,7 +8,7 @@ ghost use Rattle.diff_space.specs.Spaces.{IsSpaceOf};
 
 use crate::checking::{are_right, are_rows};
 use crate::classes::{PlaceClass, classes_of};
-use crate::merging::rows_of;
+use crate::differing_rows::rows_of;
 use crate::row::DiffRow;
 use diff_space::{Bounds, RuleSide, Space, Work, space_of};
 use std::alloc::{AllocError, Global};

@@ -8,7 +8,7 @@
 // search continues for each segment of that dimension (`splitting.rt`). So each machine in each
 // state is in a class, and gets what the class says.
 //
-// Classes are merged into rows (`merging.rt`), of which nothing is proved. The rows are then
+// Classes are merged into rows (`differing_rows.rt`), of which nothing is proved. The rows are then
 // checked against the classes (`checking.rt`). All that is promised of rows follows from this.
 
 mod checking;
@@ -16,8 +16,8 @@ mod classes;
 mod condition;
 mod contents;
 mod diff;
+mod differing_rows;
 mod laws;
-mod merging;
 mod plan_run;
 mod possible;
 mod row;

@@ -16,7 +16,7 @@
 // The words that the verdict doesn't call misplaced are expected (`trial.rt`).
 //
 // A wrong name or number is explained by what comes before it, such as `offer`, `flag` or a bracket
-// (`sentence.rt`).
+// (`lexeme_sentence.rt`).
 //
 // Parts of the text are escaped for printing. So another person's rule can't start a line of its
 // own or control a terminal (`caret.rt`, `quoting.rt`).
@@ -25,10 +25,10 @@ mod caret;
 mod follower;
 mod hint;
 mod lexeme;
+mod lexeme_sentence;
 mod place;
 mod quoting;
 mod rule_message;
-mod sentence;
 mod spread;
 mod trial;
 

@@ -4,9 +4,9 @@
 use crate::caret::message_at;
 use crate::follower::{SAMPLES, expects_test, push_samples};
 use crate::hint::misplaced_hint;
+use crate::lexeme_sentence::push_sentence;
 use crate::place::{front, line_at, line_text};
 use crate::quoting::push_lexeme;
-use crate::sentence::push_sentence;
 use crate::spread::{lexeme_start, spread};
 use crate::trial::samples_after;
 use cells::Shape;

@@ -2,7 +2,7 @@ use Rattle.std.proofs.Common.{refl, sym}
 use Rattle.cells.specs.Names.{IsName}
 use Rattle.counters_file.specs.Lines.{array_line}
 use Rattle.counters_file.proofs.Pushed.{line_pushed, one_seen}
-use Rattle.counters_file.proofs.writing.push_arrays.Goals as goal
+use Rattle.counters_file.proofs.saved_counters.push_arrays.Goals as goal
 
 pub loop-left-preserved : goal.loop-left-preserved
 loop-left-preserved c =

@@ -3,7 +3,7 @@ use Rattle.std.specs.Prelude.{All, flat_map, string_bytes}
 use Rattle.cells.specs.Names.{IsName}
 use Rattle.counters_file.specs.Lines.{array_line}
 use Rattle.counters_file.specs.Text.{ended}
-use Rattle.counters_file.proofs.writing.push_arrays.Given as goal
+use Rattle.counters_file.proofs.saved_counters.push_arrays.Given as goal
 
 -- the lines so far, and those of the arrays that are left, are all
 abbrev pub invariant-loop-left : goal.invariant-loop-left

@@ -2,7 +2,7 @@ use Rattle.std.proofs.Common.{◌∙◌, ◌++◌, ◌+◌, ℕ, ap, arith}
 use Rattle.std.specs.Prelude.{flat_map, slice_index, string_bytes}
 use Rattle.counters_file.specs.Text.{ended, lines_of_counter}
 use Rattle.counters_file.proofs.Pushed.{lines_pushed}
-use Rattle.counters_file.proofs.writing.push_counters_of.Goals as goal
+use Rattle.counters_file.proofs.saved_counters.push_counters_of.Goals as goal
 
 pub loop-index-preserved : goal.loop-index-preserved
 loop-index-preserved c =

@@ -1,7 +1,7 @@
 use Rattle.std.proofs.Common.{◌≡◌, ◌++◌, length}
 use Rattle.std.specs.Prelude.{flat_map, string_bytes}
 use Rattle.counters_file.specs.Text.{ended, lines_of_array}
-use Rattle.counters_file.proofs.writing.push_counters.Given as goal
+use Rattle.counters_file.proofs.saved_counters.push_counters.Given as goal
 
 -- the lines so far, and those of the arrays that are left, are all
 abbrev pub invariant-loop-left : goal.invariant-loop-left

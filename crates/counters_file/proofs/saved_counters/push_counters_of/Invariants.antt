@@ -2,7 +2,7 @@ use Rattle.std.proofs.Common.{◌≡◌, ◌≤◌, ◌++◌, ◌+◌}
 use Rattle.std.specs.Prelude.{flat_map, slice_index, string_bytes}
 use Rattle.std.specs.List.{range_with_len}
 use Rattle.counters_file.specs.Text.{ended, lines_of_counter}
-use Rattle.counters_file.proofs.writing.push_counters_of.Given as goal
+use Rattle.counters_file.proofs.saved_counters.push_counters_of.Given as goal
 
 -- the lines of the counters so far
 abbrev pub invariant-loop-index : goal.invariant-loop-index
