@@ -25,7 +25,8 @@ ESCAPE = re.compile(rb" / |\\(?:x([0-9a-fA-F]{2})|(.))", re.S)
 SPELLED = {b"n": b"\n", b"r": b"\r", b"t": b"\t", b"\\": b"\\"}
 PATIENCE, LATE = 120, 0.5
 # What begins a row or a call, and what is wanted of it.
-CALLS, WANTS = {*"%$@<>^&(:"}, {*"|.!=?~"}
+ROWS = {"$", "<", "send", "narrow", "no-memory", "background", "slowly"}
+CALLS, WANTS = {*ROWS, "%", "link", "give", "wait"}, {*"|.!=?~"}
 # Lines on standard error that crates/rows doesn't see: those that the commands' runtime writes.
 NOTED = re.compile(rb"until the server restarts, unless|apps gone: ")
 # A server's log, which goes into files.
@@ -52,7 +53,7 @@ class Row:
     def __init__(self, number, mark, text):
         self.number, self.mark, self.text = number, mark, text
         self.status, self.out, self.err, self.parts = 0, "", "", []
-        self.is_row = mark in "$<>^&("
+        self.is_row = mark in ROWS
 
     def want(self, mark, text):
         if mark == "=":
@@ -133,11 +134,11 @@ def steps_of(text):
             name, _, spelled = rest.partition(" ") if mark == "+" else (rest, "", "")
             steps.append([name, unescaped(spelled)])
             in_text = mark == "--"
-        elif mark == "*":
+        elif mark == "copies":
             times, _, spelled = rest.partition(" ")
             steps[-1][1] += int(times) * unescaped(spelled)
             in_text = False
-        elif mark in CALLS or line == ")" or line == "^":
+        elif mark in CALLS:
             steps.append(Row(number, mark, rest))
             in_text = False
         elif in_text:
@@ -220,18 +221,18 @@ class Runner:
     def called(self, row):
         if row.mark == "<":
             return 0, (self.folder / row.text).read_text(errors="replace"), ""
-        if row.mark == ">":
+        if row.mark == "send":
             return self.sent(row.text)
-        if row.mark == "@":
+        if row.mark == "link":
             name, _, target = row.text.partition(" ")
             (self.folder / name).symlink_to(target)
             return 0, "", ""
-        return self.ended(*self.begun(row.text, row.mark == "^"))
+        return self.ended(*self.begun(row.text, row.mark == "narrow"))
 
     def start(self, row):
         """Begins what runs in the background; returns what gives its end."""
         port, _, rest = row.text.partition(" ")
-        if row.mark == "&":
+        if row.mark == "background":
             running = self.begun(rest)
             until = time.monotonic() + 30
             while running[0].poll() is None and time.monotonic() < until:
@@ -240,7 +241,7 @@ class Runner:
                         break
                 time.sleep(0.01)
             return lambda: self.ended(*running)
-        if row.mark == "(":
+        if row.mark == "slowly":
             count, _, name = rest.partition(" ")
             given = (self.folder / name).read_bytes()
             stream = self.connected(port, given[:int(count)])
@@ -276,10 +277,10 @@ class Runner:
 
     def do(self, row):
         """The row that this step judges, with what came of it; None if it only begins."""
-        if row.mark in "&(:":
+        if row.mark in ("background", "slowly", "give"):
             self.behind.append((row, self.start(row)))
             return None
-        if row.mark == ")":
+        if row.mark == "wait":
             begun, end = self.behind.pop()
             return begun, end()
         return row, self.called(row)
@@ -295,7 +296,7 @@ def run(programs, folder, name):
             (folder / step[0]).write_bytes(step[1])
             continue
         # Memory for words is refused within a process only.
-        if step.mark == "^" and not step.text:
+        if step.mark == "no-memory":
             left += 1
             continue
         if (judged := runner.do(step)) is None:

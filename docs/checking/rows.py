@@ -6,9 +6,9 @@ import re
 from checking.places import CRATES, DOCS
 
 ROWS = CRATES / "rows"
-ROW = re.compile(r"[$<>^&(] ")
-# What begins a file or a command, and so ends a file's text.
-MARK = re.compile(r"(?:--|[+*%$@<>^&(:]) |\)$|each$|\^$")
+ROW = re.compile(r"(?:[$<]|send|narrow|no-memory|background|slowly)(?: |$)")
+# What begins a file, a row or a step, and so ends a file's text.
+MARK = re.compile(ROW.pattern + r"|(?:--|[+%]|copies|link|give|wait)(?: |$)|each$")
 
 
 def left_out():
@@ -36,7 +36,7 @@ def count(text):
                 table = None
             elif not line.startswith("# "):
                 found += each
-        elif ROW.match(line) or line == "^":
+        elif ROW.match(line):
             each, found = (each + 1, found) if table else (each, found + 1)
     return found
 

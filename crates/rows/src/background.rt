@@ -4,7 +4,7 @@
 use crate::calling::called;
 use crate::logging::{Handles, Logging};
 use crate::loopback::{port_of, replied, sent};
-use crate::marks::first_word;
+use crate::marks::{Mark, first_word};
 use crate::printed::Printed;
 use std::fs;
 use std::io::{self, Error, Read, Write};
@@ -45,11 +45,10 @@ fn now(rt: &HostRuntime) -> Duration {
 }
 
 /// The time of now for a request whose end is sent late, otherwise 0.
-fn began_of(rt: &HostRuntime, mark: u8) -> Duration {
-    if mark == b'(' {
-        now(rt)
-    } else {
-        Duration::ZERO
+fn began_of(rt: &HostRuntime, mark: Mark) -> Duration {
+    match mark {
+        Mark::Slowly => now(rt),
+        _ => Duration::ZERO,
     }
 }
 
@@ -124,7 +123,7 @@ fn given(rt: &HostRuntime, listener: &TcpListener, bytes: &[u8]) -> io::Result<P
 /// What a thread gives.
 fn performed<T: Handles + 'static>(rt: &Logging<T>, task: Task) -> io::Result<Printed> {
     match task {
-        Task::Command(words) => called(rt, words.as_str()),
+        Task::Command(words) => called(rt, Mark::Command, words.as_str()),
         Task::Late(stream, bytes, first) => late_reply(&rt.rt, &stream, &bytes, first),
         Task::Give(listener, bytes) => given(&rt.rt, &listener, &bytes),
     }
@@ -165,10 +164,10 @@ fn offered(rt: &HostRuntime, port: u16, name: &str) -> io::Result<Task> {
 }
 
 /// What the mark says, by a port and the text after it.
-fn task_of(rt: &HostRuntime, mark: u8, port: u16, text: &str) -> io::Result<Task> {
+fn task_of(rt: &HostRuntime, mark: Mark, port: u16, text: &str) -> io::Result<Task> {
     match mark {
-        b'(' => begun(rt, port, text),
-        b':' => offered(rt, port, text),
+        Mark::Slowly => begun(rt, port, text),
+        Mark::Give => offered(rt, port, text),
         _ => Ok(Task::Command(String::from_str(rt.alloc(), text)?)),
     }
 }
@@ -179,7 +178,7 @@ pub(crate) fn start<T: Handles + 'static>(
     rt: &Logging<T>,
     background: &mut Vec<Background>,
     place: usize,
-    mark: u8,
+    mark: Mark,
     text: &str,
 ) -> io::Result<()> {
     let (port, text) = first_word(text);
@@ -190,7 +189,7 @@ pub(crate) fn start<T: Handles + 'static>(
     let has_ended = Arc::new(rt.rt.alloc(), AtomicBool::new(false))?;
     let notice = has_ended.clone()?;
     let thread = thread::spawn(&rt.threads, move || ended(&own, task, notice))?;
-    if mark == b'&' {
+    if matches!(mark, Mark::Background) {
         await_port(&rt.rt, port, &has_ended)?;
     }
     Ok(background.push(Background {

@@ -3,7 +3,7 @@
 use crate::escapes::words_of;
 use crate::logging::{Handles, Logging};
 use crate::loopback::reply_of;
-use crate::marks::{first_word, marked};
+use crate::marks::{Mark, first_word};
 use crate::printed::Printed;
 use cli_base::{WordsFault, unreadable_words, usage};
 use cli_commands::Device;
@@ -106,16 +106,19 @@ fn link(rt: &HostRuntime, text: &str) -> io::Result<Printed> {
 }
 
 /// What the call of a step gives.
-pub(crate) fn called<T: Handles + 'static>(rt: &Logging<T>, line: &str) -> io::Result<Printed> {
-    let (mark, rest) = marked(line);
-    let words = match mark {
-        b'<' => return file_of(&rt.rt, rest),
-        b'>' => return reply_of(&rt.rt, rest),
-        b'@' => return link(&rt.rt, rest),
-        b'^' if rest.is_empty() => return Ok(without_memory(rt.rt.alloc())),
-        b'^' => rest,
-        _ => line,
-    };
-    let words = words_of(rt.rt.alloc(), words)?;
-    Ok(printed_of(rt, words.as_slice(), mark == b'^'))
+pub(crate) fn called<T: Handles + 'static>(
+    rt: &Logging<T>,
+    mark: Mark,
+    text: &str,
+) -> io::Result<Printed> {
+    match mark {
+        Mark::Show => file_of(&rt.rt, text),
+        Mark::Send => reply_of(&rt.rt, text),
+        Mark::Link => link(&rt.rt, text),
+        Mark::NoMemory => Ok(without_memory(rt.rt.alloc())),
+        _ => {
+            let words = words_of(rt.rt.alloc(), text)?;
+            Ok(printed_of(rt, words.as_slice(), matches!(mark, Mark::Narrow)))
+        }
+    }
 }

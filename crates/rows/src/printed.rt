@@ -1,5 +1,6 @@
 //! What a command prints, and what a row wants it to print.
 
+use crate::marks::Mark;
 use std::alloc::{AllocError, Global};
 use std::str;
 
@@ -37,6 +38,8 @@ pub(crate) fn text_of(bytes: &[u8]) -> &str {
 #[derive(Drop)]
 pub(crate) struct Row {
     pub(crate) line: usize,
+    pub(crate) mark: Mark,
+    /// The text after the mark.
     pub(crate) words: String,
     /// Whether the output is compared; if not, only the status is.
     pub(crate) is_compared: bool,

@@ -1,30 +1,37 @@
-//! How a file of rows is read. It is a text, and the mark at a line's start says what the line is:
+//! How a file of rows is read. It is a text, and the first word of a line, its mark, says what the
+//! line is:
 //!
 //! ```text
-//! -- NAME        writes the file NAME: its text is the lines below, up to the next line that
-//!                begins with a mark of a file or of a command. No line of it begins with the first
-//!                character of another mark
+//! -- NAME        writes the file NAME: its text is the lines below, up to the next line with a
+//!                mark of a file, a row or a step. No line of it begins with the character of
+//!                another mark
 //! + NAME TEXT    writes the file NAME with this text, in which ` / ` and `\n` are a line feed, and
 //!                `\r`, `\t`, `\\` and `\xHH` one byte each; nothing else ends it
-//! * N TEXT       appends this text, with the same escapes, N times to the last file
+//! copies N TEXT  appends this text, with the same escapes, N times to the last file
 //! % WORDS        a command that prepares: it ends with status 0, whatever it prints
+//! link NAME TARGET
+//!                makes NAME a symbolic link that leads to TARGET
 //! $ WORDS        a row: a command, whose status and whole output are compared
-//! @ NAME TARGET  makes NAME a symbolic link that leads to TARGET
 //! < NAME         a row: the text of the file NAME, as if a command printed it
-//! > PORT NAME    a row: the bytes of the file NAME are sent to this port, and what comes back is
+//! send PORT NAME
+//!                a row: the bytes of the file NAME are sent to this port, and what comes back is
 //!                as if a command printed it, with `\r` for a carriage return. If the word `end`
 //!                follows, the sending side is ended after them
-//! ^ WORDS        a row: a command whose standard output takes only ten bytes, which aren't
-//!                compared; without words, both programs' refusals if memory for words is refused
-//! & PORT WORDS   a row: a command that runs in the background up to its line `)`, which compares
-//!                its status and its whole output. The next line waits until something listens at
-//!                the port or the command has ended, at most half a minute
-//! ( PORT N NAME  a row: the first N bytes of the file NAME are sent to this port, and the others
-//!                half a second later, in the background. Its line `)`, which may not come sooner,
-//!                compares what comes back
-//! : PORT NAME    the next client of this port gets the bytes of the file NAME, once it has sent
+//! narrow WORDS   a row: a command whose standard output takes only ten bytes, which aren't
+//!                compared
+//! no-memory      a row: both programs' refusals if memory for words is refused
+//! background PORT WORDS
+//!                a row: a command that runs in the background up to its line `wait`, which
+//!                compares its status and its whole output. The next line waits until something
+//!                listens at the port or the command has ended, at most half a minute
+//! slowly PORT N NAME
+//!                a row: the first N bytes of the file NAME are sent to this port, and the others
+//!                half a second later, in the background. Its line `wait`, which may not come
+//!                sooner, compares what comes back
+//! give PORT NAME
+//!                the next client of this port gets the bytes of the file NAME, once it has sent
 //!                a line, in the background
-//! )              waits for the end of what was last begun in the background
+//! wait           waits for the end of what was last begun in the background
 //! | LINE         a line of its standard output
 //! . TEXT         the end of its standard output, without a line feed
 //! ! LINE         a line of its standard error
@@ -47,14 +54,14 @@
 //! and stay there until they are written again. A `/` in a file's name makes the folder before it.
 //!
 //! Each file of rows has a row, each table a line, and whatever begins in the background has a line
-//! `)`. A backslash with anything but an escape after it is an error.
+//! `wait`. A backslash with anything but an escape after it is an error.
 //!
 //! In the whole text `<port1>` to `<port12>` are free ports, and with these `<day>` is the number
 //! of days from 2007-01-01 to today; in a text without ports `<folder>` is the path of its folder.
 //! The log of a server is appended to the file `log`, but its lines of connections to the file
 //! `connections`; each line begins after its `"kind":`.
 
-use crate::marks::marked;
+use crate::marks::Mark;
 use crate::steps::{Step, read_marked};
 use anyhow::{Result, bail};
 use std::alloc::{AllocError, Global};
@@ -189,19 +196,19 @@ fn require_ends(steps: &[Step]) -> Result<()> {
             if row.is_compared {
                 rows = rows.saturating_add(1);
             }
-            let (mark, line) = (marked(row.words.as_str()).0, row.line);
-            if mark == b')' && begun == 0 {
-                bail!("line {line}: nothing runs in the background")
-            }
-            match mark {
-                b'&' | b'(' | b':' => begun = begun.saturating_add(1),
-                b')' => begun = begun.saturating_sub(1),
-                _ => {}
+            let line = row.line;
+            if matches!(row.mark, Mark::Wait) {
+                if begun == 0 {
+                    bail!("line {line}: nothing runs in the background")
+                }
+                begun = begun.saturating_sub(1);
+            } else if row.mark.begins() {
+                begun = begun.saturating_add(1);
             }
         }
     }
     if begun > 0 {
-        bail!("{begun} lines `)` are missing")
+        bail!("{begun} lines `wait` are missing")
     }
     if rows == 0 {
         bail!("it has no rows")

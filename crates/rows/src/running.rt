@@ -5,7 +5,7 @@ use crate::calling::called;
 use crate::judging::Count;
 use crate::logging::{Handles, Logging};
 use crate::loopback::filled_text;
-use crate::marks::marked;
+use crate::marks::Mark;
 use crate::printed::Row;
 use crate::reading::read_steps;
 use crate::steps::{Step, WrittenFile};
@@ -45,20 +45,20 @@ fn run_row<T: Handles + 'static>(
     background: &mut Vec<Background>,
     count: &mut Count,
 ) -> io::Result<()> {
-    let (mark, rest) = marked(row.words.as_str());
-    match mark {
-        b')' => end_last(rt, steps, row, background, count),
-        b'&' | b'(' | b':' => match start(rt, background, place, mark, rest) {
+    let words = row.words.as_str();
+    if matches!(row.mark, Mark::Wait) {
+        return end_last(rt, steps, row, background, count);
+    }
+    if row.mark.begins() {
+        return match start(rt, background, place, row.mark, words) {
             Ok(()) => Ok(()),
             Err(error) => count.fail(&rt.rt, row, error),
-        },
-        _ => {
-            let came = called(rt, row.words.as_str());
-            let judged = count.judge(&rt.rt, row, &came);
-            drop(came);
-            judged
-        }
+        };
     }
+    let came = called(rt, row.mark, words);
+    let judged = count.judge(&rt.rt, row, &came);
+    drop(came);
+    judged
 }
 
 /// Writes a file, and the folder that is in its name.

@@ -1,13 +1,13 @@
 //! What a file of rows does, step by step, as its lines are read.
 
 use crate::escapes::unescape;
-use crate::marks::{first_word, marked};
+use crate::marks::{Mark, first_word, mark_of};
 use crate::printed::{Printed, Row, push_line};
-use std::alloc::{AllocError, Global};
+use std::alloc::Global;
 use std::io::{self, Error};
 
 /// The bytes of marks, but not of those with which the lines of a text may begin.
-const MARKS: &[u8] = b"+*%$@<>^&(:)|.!=?~";
+const MARKS: &[u8] = b"+%$<|.!=?~";
 
 /// A file that is written.
 #[derive(Drop)]
@@ -22,7 +22,7 @@ pub(crate) struct WrittenFile {
 #[derive(Drop)]
 pub(crate) enum Step {
     Write(WrittenFile),
-    /// Runs a command, or what the mark before its words says.
+    /// Runs a command, or does what another mark says.
     Run(Row),
 }
 
@@ -33,19 +33,21 @@ pub(crate) fn read_marked(
     number: usize,
     line: &str,
 ) -> io::Result<()> {
-    let (mark, text) = marked(line);
+    let (word, text) = first_word(line);
+    let Some(mark) = mark_of(word) else {
+        return go_on(steps, line);
+    };
     match mark {
-        b'-' => begin_file(alloc, steps, text, "", true),
-        b'+' => {
+        Mark::File => begin_file(alloc, steps, text, "", true),
+        Mark::Text => {
             let (name, text) = first_word(text);
             begin_file(alloc, steps, name, text, false)
         }
-        b'*' => repeat(alloc, steps, text),
-        b'%' => begin_command(alloc, steps, number, text, false),
-        b'$' => begin_command(alloc, steps, number, text, true),
-        b'<' | b'>' | b'^' | b'&' | b'(' => begin_command(alloc, steps, number, line, true),
-        b'@' | b':' | b')' => begin_command(alloc, steps, number, line, false),
-        _ => go_on(steps, line),
+        Mark::Copies => repeat(alloc, steps, text),
+        Mark::Prepare | Mark::Link | Mark::Give | Mark::Wait => {
+            begin_command(alloc, steps, number, mark, text, false)
+        }
+        _ => begin_command(alloc, steps, number, mark, text, true),
     }
 }
 
@@ -67,17 +69,19 @@ fn begin_file(
     Ok(steps.push(Step::Write(file))?)
 }
 
-/// Runs a command, whose output is compared if this says so.
+/// Runs what the mark says, and compares its output if this says so.
 fn begin_command(
     alloc: Global,
     steps: &mut Vec<Step>,
     line: usize,
+    mark: Mark,
     words: &str,
     is_compared: bool,
 ) -> io::Result<()> {
     let words = String::from_str(alloc, words)?;
     let row = Row {
         line,
+        mark,
         words,
         is_compared,
         wanted: Printed::nothing(alloc),
@@ -129,10 +133,14 @@ fn push_text(file: &mut WrittenFile, line: &str) -> io::Result<()> {
 
 /// Adds a line to what a row wants.
 fn want(row: &mut Row, line: &str) -> io::Result<()> {
-    let (mark, text) = marked(line);
+    let (mark, text) = first_word(line);
     match mark {
-        b'|' | b'!' | b'?' | b'~' | b'.' => Ok(want_text(row, mark, text)?),
-        b'=' => match text.parse::<u8>() {
+        "|" => Ok(push_line(&mut row.wanted.out, text)?),
+        "!" => Ok(push_line(&mut row.wanted.err, text)?),
+        "?" => Ok(row.want_line(text)?),
+        "~" => Ok(push_line(&mut row.parts, text)?),
+        "." => Ok(row.wanted.out.extend_from_slice(text.as_bytes())?),
+        "=" => match text.parse::<u8>() {
             Ok(status) => {
                 row.wanted.status = status;
                 Ok(())
@@ -140,17 +148,6 @@ fn want(row: &mut Row, line: &str) -> io::Result<()> {
             Err(_) => Err(Error::other("it has no status")),
         },
         _ => pass_over(line),
-    }
-}
-
-/// Adds a text to what a row wants, by its line's mark.
-fn want_text(row: &mut Row, mark: u8, text: &str) -> Result<(), AllocError> {
-    match mark {
-        b'|' => push_line(&mut row.wanted.out, text),
-        b'!' => push_line(&mut row.wanted.err, text),
-        b'?' => row.want_line(text),
-        b'~' => push_line(&mut row.parts, text),
-        _ => row.wanted.out.extend_from_slice(text.as_bytes()),
     }
 }
 
