@@ -97,12 +97,12 @@ def booted(folder):
     (folder / "top").mkdir()
     apart = ["unshare", "--mount", "--pid", "--fork", "--kill-child", "--net", "--uts", "--ipc"]
     boot = ["sh", "-ec", BOOT, "boot", str(folder / "top"), str(root), FIRST]
-    with own_group() as group, open(folder / "boot", "wb") as told:
+    with own_group() as group, open(folder / "boot", "wb") as output:
 
         def enter():
             (group / "cgroup.procs").write_text(str(os.getpid()))
 
-        how = {"stdin": subprocess.DEVNULL, "stdout": told, "stderr": told, "preexec_fn": enter}
+        how = {"stdin": subprocess.DEVNULL, "stdout": output, "stderr": output, "preexec_fn": enter}
         process = subprocess.Popen([*apart, "--cgroup", *boot], **how)
         try:
             into = ["nsenter", "-t", str(child_of(process)), *"-m -p -n -u -i -C -r -w".split()]
@@ -126,11 +126,11 @@ class Booted:
     def call(self, *words):
         return called(*self.into, *words)
 
-    def told(self, name, unit="rollout"):
+    def property_of(self, name, unit="rollout"):
         """A property of a unit."""
         return self.call("systemctl", "show", "--value", "-p", name, unit)[1].strip()
 
-    def is_asked(self):
+    def answers(self):
         return OFFERED in self.call("curl", "-s", POST, "-d", ASK)[1]
 
     def started(self):
@@ -147,7 +147,7 @@ def wrong_start(it):
         return f"{found}"
     if wrong := it.started():
         return wrong
-    status = it.call("cat", f"/proc/{it.told('MainPID')}/status")[1]
+    status = it.call("cat", f"/proc/{it.property_of('MainPID')}/status")[1]
     if lacking := [line for line in CONFINED if line not in status]:
         return f"not confined: {lacking}"
 
@@ -174,27 +174,29 @@ def wrong_places(it):
 def wrong_ends(it):
     """A second server on the same ports, a crash, a signal, two stops; a halt and a counter outlive
     them."""
-    if it.call("systemctl", "start", "rollout@8")[0] == 0 or not it.is_asked():
+    if it.call("systemctl", "start", "rollout@8")[0] == 0 or not it.answers():
         return "a second server of the same ports is started, or ends the first"
     it.call("systemctl", "stop", "rollout@8")
     it.call(PROGRAM, "halt", "agent", *AT)
     if not awaited(lambda: "\nhalted agent\n" in it.call("cat", COUNTERS)[1], 5):
         return f"the file of counters has no halt: {it.call('cat', COUNTERS)}"
-    it.call("kill", "-s", "KILL", it.told("MainPID"))
-    again = ("running", "1")
-    if not awaited(lambda: (it.told("SubState"), it.told("NRestarts")) == again and it.is_asked()):
+    it.call("kill", "-s", "KILL", it.property_of("MainPID"))
+    again = ["running", "1"]
+    properties = ("SubState", "NRestarts")
+    if not awaited(lambda: [*map(it.property_of, properties)] == again and it.answers()):
         return "it isn't started anew after a crash"
-    it.call("kill", it.told("MainPID"))
-    if not awaited(lambda: it.told("ActiveState") == "inactive"):
-        return f"after SIGTERM it is {it.told('ActiveState')}"
+    it.call("kill", it.property_of("MainPID"))
+    if not awaited(lambda: it.property_of("ActiveState") == "inactive"):
+        return f"after SIGTERM it is {it.property_of('ActiveState')}"
     for words in ([PROGRAM, "stop", *AT, "--wait"], ["systemctl", "stop", "rollout"]):
         if wrong := it.started():
             return wrong
         if "\nhalted agent\n" not in it.call(PROGRAM, "state", *AT)[1]:
             return "a halt is undone by a start"
         cells = it.call(PROGRAM, "cells", *AT)[1]
-        found = it.call(*words)[0], it.told("Result")
-        if found != (0, "success") or not awaited(lambda: it.told("ActiveState") == "inactive"):
+        found = it.call(*words)[0], it.property_of("Result")
+        has_stopped = awaited(lambda: it.property_of("ActiveState") == "inactive")
+        if found != (0, "success") or not has_stopped:
             return f"{words}: {found}"
         rows = re.findall(r"^(\w+) (\d+) (\d+)$", it.call("cat", COUNTERS)[1], re.M)
         if not rows or "".join(f"{name}[{at}] {value}\n" for name, at, value in rows) != cells:
@@ -207,7 +209,7 @@ def wrong_next(it):
         return wrong
     if (found := it.call("systemctl", "start", "rollout@9"))[0] != 0:
         return f"no next server: {found}"
-    if it.told("ActiveState", "rollout@9") != "active" or not it.is_asked():
+    if it.property_of("ActiveState", "rollout@9") != "active" or not it.answers():
         return "a server that waits isn't started, or the present one serves no longer"
     if (found := it.call("systemctl", "stop", "rollout"))[0] != 0:
         return f"no stop: {found}"
@@ -237,15 +239,15 @@ def wrong_guard(it):
     it.call("systemctl", "enable", "rollout-nft")
     it.call("systemctl", "reset-failed")
     found = it.call("systemctl", "start", "rollout")
-    if found[0] == 0 or it.told("ActiveState") != "inactive" or it.is_asked():
+    if found[0] == 0 or it.property_of("ActiveState") != "inactive" or it.answers():
         return f"without its rules it starts: {found}"
     it.call("sh", "-c", stub, "true")
     if wrong := it.started():
         return f"with its rules: {wrong}"
-    process = it.told("MainPID")
+    process = it.property_of("MainPID")
     if (found := it.call("systemctl", "restart", "rollout-nft"))[0] != 0:
         return f"no restart of rollout-nft: {found}"
-    if it.told("MainPID") != process or not it.is_asked():
+    if it.property_of("MainPID") != process or not it.answers():
         return "a restart of rollout-nft restarts the server"
     it.call("systemctl", "stop", "rollout")
 

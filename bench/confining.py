@@ -118,7 +118,7 @@ def operators_port(folder):
                 return f"{OTHER}'s server without rules: {found}"
             called(*net.enter, "nft", "-f", str(rules))
             if (found := polled(net, "root"))[1] != "":
-                return f"{OTHER}'s server is heard: {found}"
+                return f"{OTHER}'s server replies: {found}"
 
 
 def heed_signals():
@@ -195,7 +195,7 @@ def wrong_entry(host, entry, health):
             os.kill(number, it)
             time.sleep(1)
             if process.poll() is not None:
-                return f"{it.name}: who was being heard is cut off"
+                return f"{it.name}: a request in progress is cut off"
             slow.sendall(ASK.encode())
             if OFFERED not in (reply := rest(slow)) or process.wait(PATIENCE) != 0:
                 return f"{it.name}: {reply!r}, status {process.returncode}"

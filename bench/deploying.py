@@ -15,7 +15,7 @@ import time
 from booting import BOOTED
 from confining import CONFINED
 from hosts import ASK, DEPLOY, HEAD, NOTHING, OFFERED, PATIENCE, PORTS, Host
-from hosts import Skipped, asked, awaited, called, connect, needs, rest, words_of
+from hosts import Skipped, awaited, called, connect, needs, reply, rest, words_of
 from proxying import PROXIED
 
 # The highest exposure level, in systemd's scale to 100.
@@ -87,7 +87,7 @@ def calls_of(host, unit, folder):
     folder.mkdir()
     found = [traced("ExecStartPre")[0]]
     with host.started(unit, *before) as server:
-        asked()
+        reply()
         found += [traced("ExecReload")[0], traced("ExecStartPost", MAINPID=str(os.getpid()))[0]]
         found += [traced("ExecStop", MAINPID=str(server.pid))[0], server.wait(PATIENCE)]
     if any(found):
@@ -131,7 +131,7 @@ def system_calls(folder):
     names = {found[1] for line in lines if (found := re.match(r"(\w+)\(", line))}
     allowed = allowed_by(re.findall(r"^SystemCallFilter=(.*)$", unit.read_text(), re.M))
     if not {"accept4", "execve", "openat", "sendto"} <= names & allowed:
-        return f"not told as they are: {sorted(names)} {sorted(allowed)}"
+        return f"another list of names: {sorted(names)} {sorted(allowed)}"
     if names - allowed:
         return f"the filter of the unit hasn't {names - allowed}"
     if wrong := [line for line in lines if WRITE_AND_EXECUTE.match(line)]:
@@ -150,7 +150,7 @@ def unit_commands(folder):
     if host.command(unit, "ExecStartPre")[0] != 0:
         return f"{host.command(unit, 'ExecStartPre')}"
     with host.started(unit) as server:
-        if OFFERED not in asked():
+        if OFFERED not in reply():
             return "no offer"
         (host.top / "etc" / "rollout" / "editor.rule").write_text("otherwise none;\n")
         host.serve_from("manifest.toml")
@@ -165,7 +165,7 @@ def unit_commands(folder):
         server.send_signal(signal.SIGKILL)
         server.wait()
     with host.started(unit) as server:
-        if NOTHING not in asked() or "halted agent\n" not in operated("state"):
+        if NOTHING not in reply() or "halted agent\n" not in operated("state"):
             return "a halt is undone by a start"
         if wrong := wrong_stop(host, unit, server):
             return wrong
@@ -192,7 +192,7 @@ def wrong_second(host, unit):
         return "a second server has other ports"
     if host.command(unit, "ExecStartPost", MAINPID=str(second.pid)) != (1, ""):
         return "a server that has ended is ready"
-    if host.command(unit, "ExecStop") != (0, "") or NOTHING not in asked():
+    if host.command(unit, "ExecStop") != (0, "") or NOTHING not in reply():
         return "who has ended by himself stops another server"
 
 
@@ -227,18 +227,18 @@ def rotated_log(folder):
     for place in (host.log().parent, host.top):
         place.chmod(0o755)
     with host.started(host.file("rollout.service")):
-        asked()
+        reply()
         if not awaited(lambda: '"status":200,' in host.log().read_text(), 5):
             return "no line"
         words = ["--state", str(host.top / "state"), "--force", str(rotation)]
         found = called("logrotate", *words)
         if found != (0, "") or host.log().read_bytes() != b"":
             return f"{found} {host.log().read_bytes()[:80]}"
-        asked()
+        reply()
         if not awaited(lambda: '"status":200,' in host.log().read_text(), 5):
-            return "no line behind the rotation"
+            return "no line after the rotation"
         if host.log().read_bytes()[:1] == b"\0":
-            return "the line stands at the old place"
+            return "the line is at the old place"
         if '"status":200,' not in (host.log().parent / "log.1").read_text():
             return "the earlier line is lost"
 

@@ -25,13 +25,13 @@ def run(crate, names, top):
     words = ["bench/rows", "--try", *names] if crate == ROWS else ["rt", "try", "--test"]
     folder = top if crate == ROWS else top / "crates" / crate
     ran = subprocess.run(words, cwd=folder, capture_output=True, text=True, errors="replace")
-    said = ran.stdout + ran.stderr
+    output = ran.stdout + ran.stderr
     if crate == ROWS:
-        return {name: not wrong for name, wrong in ROW_LINE.findall(said)}
-    return {name: how.startswith("ok") for name, how in TEST_LINE.findall(said)}
+        return {name: not wrong for name, wrong in ROW_LINE.findall(output)}
+    return {name: how.startswith("ok") for name, how in TEST_LINE.findall(output)}
 
 
-def tell(edit, crate, top, wanted):
+def tried(edit, crate, top, wanted):
     """Runs what an edit names with it in place. Returns a report, and whether all of it fails."""
     with put_in(edit, crate) as why:
         if why:
@@ -74,8 +74,8 @@ def try_tests(crates):
             if not named_by([edit]):
                 print(f"{crate}/{edit.name}: not tried: a check of bench/outside finds it")
                 continue
-            said, is_seen = tell(edit, top / "crates" / crate, top, named_by([edit]))
-            print(f"{crate}/{edit.name}: {said}", flush=True)
+            report, is_seen = tried(edit, top / "crates" / crate, top, named_by([edit]))
+            print(f"{crate}/{edit.name}: {report}", flush=True)
             seen.append(is_seen)
     print(f"{sum(seen)} of {len(seen)} are seen by their tests")
     return all(seen)

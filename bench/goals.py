@@ -38,8 +38,8 @@ def open_goals(output):
     return found, gone
 
 
-def tell(edit, crate):
-    """Checks a crate with an edit in it. Returns what is said of it, and whether it is right."""
+def tried(edit, crate):
+    """Checks a crate with an edit in it. Returns a report, and whether it is right."""
     named = GOALS.findall(edit.read_text())
     if not named:
         return "it names no goal", False
@@ -73,8 +73,8 @@ def try_goals(crates):
         right = []
         for crate in crates:
             for edit in naming(crate):
-                said, is_right = tell(edit, Path(name) / "crates" / crate)
-                print(f"{crate}/{edit.name}: {said}", flush=True)
+                report, is_right = tried(edit, Path(name) / "crates" / crate)
+                print(f"{crate}/{edit.name}: {report}", flush=True)
                 right.append(is_right)
     print(f"{sum(right)} of {len(right)} are refused at their goals")
     return all(right)

@@ -166,7 +166,7 @@ def rest(stream):
     return reply.decode()
 
 
-def asked():
+def reply():
     with connect() as stream:
         stream.sendall((HEAD + ASK).encode())
         return rest(stream)

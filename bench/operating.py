@@ -17,7 +17,7 @@ from upgrading import UPGRADES
 # Not the launcher, which sums all sources in each call: the page has a loop of a hundred calls.
 BUILT = ROOT / "crates" / "rollout" / "out" / "rlib" / "rollout"
 PORTS = {"8080": "18097", "8081": "18098"}
-ASKED = "curl -s http://127.0.0.1:8080/service/update2/json --data-binary @-"
+POSTED = "curl -s http://127.0.0.1:8080/service/update2/json --data-binary @-"
 SERVING = "--port 8080 --operator 8081 --workers 1 --log"
 OFFERED, NOTHING = '"version":"2.1"', '"status":"noupdate"'
 REPLACED = "replaced editor.rule\nserver at 18098: generation {}\n"
@@ -111,9 +111,9 @@ def wrong_digests(day, comparing):
     log = day.folder / "server.log"
     written = log.read_bytes()
     for when in ("comparing", "after a rotation"):
-        told = day.run(comparing).splitlines()
-        if len(told) != 2 or told[0] != told[1]:
-            return f"{when}: {told}"
+        lines = day.run(comparing).splitlines()
+        if len(lines) != 2 or lines[0] != lines[1]:
+            return f"{when}: {lines}"
         os.truncate(log, 0)
     log.write_bytes(written + log.read_bytes())
 
@@ -146,9 +146,9 @@ def wrong_status(day):
     """The status after a raise and a halt, but for when, by whom and why; then undoes the halt."""
     shown = section("OPERATING.md", "Steps, and going back")[0]
     commands = [it.removeprefix("$ ") for it in shown.splitlines() if it.startswith("$ ")]
-    told = day.run(" && ".join(commands))
+    output = day.run(" && ".join(commands))
     wanted = [line for line in shown.splitlines() if not line.startswith("$ ")]
-    for line, found in zip(wanted, told.splitlines(), strict=True):
+    for line, found in zip(wanted, output.splitlines(), strict=True):
         if UNLIKE.sub("", line.replace("8081", "18098")) != UNLIKE.sub("", found):
             return f"{found}, not {line}"
     day.run("rollout stage halt editor --operator 8081")
@@ -156,13 +156,13 @@ def wrong_status(day):
 
 def wrong_events(day):
     """Sends requests with an event, and one without a cohort."""
-    asked, told = section("CLIENTS.md", "The request")
+    check, report = section("CLIENTS.md", "The request")
     answer = '{"app":[{"appid":"editor","cohort":"b:9449","status":"ok"}],'
-    long = told.replace('"eventtype"', f'"text":"{"x" * 600}","eventtype"')
-    for body in (told, told.replace('"eventresult":1', '"eventresult":0'), long):
-        if answer not in (said := day.run(ASKED, body)):
+    long = report.replace('"eventtype"', f'"text":"{"x" * 600}","eventtype"')
+    for body in (report, report.replace('"eventresult":1', '"eventresult":0'), long):
+        if answer not in (said := day.run(POSTED, body)):
             return said
-    if NOTHING not in (said := day.run(ASKED, asked.replace('"cohort":"b:9449",', ""))):
+    if NOTHING not in (said := day.run(POSTED, check.replace('"cohort":"b:9449",', ""))):
         return said
 
 
@@ -180,15 +180,15 @@ def wrong_counts(day):
 
 def wrong_report(day):
     """What `report` counts in the day's log, of which each line is the server's."""
-    told, heading = {}, ""
+    tables, heading = {}, ""
     for line in day.run("rollout report server.log").splitlines():
         heading = heading if "\t" in line else line
-        told.setdefault(heading, []).extend([line.replace("\t", " ")] if "\t" in line else [])
+        tables.setdefault(heading, []).extend([line.replace("\t", " ")] if "\t" in line else [])
     lines = (day.folder / "server.log").read_text().splitlines()
     counted = {"lines": [f"{len(lines)} counted", "0 not the server's", "0 lost"]}
     for heading, rows in {**counted, **REPORTED}.items():
-        if told.get(heading, [])[: len(rows)] != rows:
-            return f"report: {heading}: {told.get(heading)}"
+        if tables.get(heading, [])[: len(rows)] != rows:
+            return f"report: {heading}: {tables.get(heading)}"
     exposed = day.run("cat server.log | rollout report - --prometheus").splitlines()
     if lost := {*EXPOSED} - {*exposed}:
         return f"report --prometheus: no {lost}"

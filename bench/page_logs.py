@@ -184,10 +184,10 @@ def rows_of(lines):
     rows = []
     for appid in sorted(every):
         for version in sorted((v for a, v in names if a == appid), reverse=True):
-            asked, offers, ended, failed = (
+            requests, offers, ended, failed = (
                 counts[what, appid, version] for what in ("asks", "offers", "installs", "failed"))
-            rows.append([version, str(asked), share(asked, every[appid]), str(offers), str(ended),
-                         str(failed), share(failed, ended)])
+            rows.append([version, str(requests), share(requests, every[appid]), str(offers),
+                         str(ended), str(failed), share(failed, ended)])
     return rows
 
 

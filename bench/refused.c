@@ -1,8 +1,8 @@
 /* A malloc that is refused once. Loaded in front of the C library (LD_PRELOAD), it counts the calls
- * of malloc, realloc and calloc, and the one whose number is asked answers NULL; all others are the
- * C library's. Both numbers lie in the file that REFUSED_COUNTS names, 16 bytes that are shared
- * with who asks: the calls so far, and the call that is refused (from 1; 0 is none). So a call can
- * be asked for before a process starts, or while it waits, where the count is set to 0 again.
+ * of malloc, realloc and calloc. The one with a given number returns NULL; all others are the C
+ * library's. Both numbers are in the file that REFUSED_COUNTS names, 16 bytes of shared memory: the
+ * calls up to now, and the call that is refused (from 1; 0 is none). So the number can be set before
+ * a process starts, or while it waits, where the count is set to 0 again.
  *
  * A proved program calls malloc and realloc for its growths alone, and none before `main`. The C
  * library calls calloc where a thread starts. */

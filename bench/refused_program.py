@@ -8,7 +8,7 @@ from asking import (
     Server, app, array, manifest, post, program_of, request, whole, without_moment
 )
 from refused_steps import LINE as STAGE
-from refusing import Wrong, told
+from refusing import Wrong, outcome_line
 
 PATIENCE = 60
 LINE = re.compile(r"refused ([A-Z]\d+ Memory(?: in (?:--against|OLD|NEW))?)\n")
@@ -168,7 +168,7 @@ class Commands:
         written = {it: bytes_of(self.folder / it) for it in WRITTEN}
         return done.returncode, done.stdout, errors, written
 
-    def told(self, name, words):
+    def show(self, name, words):
         def answer(call):
             self.reset()
             self.refusal.ask(call)
@@ -178,16 +178,16 @@ class Commands:
             return kind(found, self.once(words))
 
         calls = CALLS.get(name, itertools.count)
-        print(told(f"rollout {name}", self.refusal.in_turn(answer, calls)))
+        print(outcome_line(f"rollout {name}", self.refusal.in_turn(answer, calls)))
 
     def run(self, name, words):
         """Makes each allocation fail. PORT is the operator's port of a server without failures."""
         if "PORT" not in words:
-            self.told(name, words)
+            self.show(name, words)
             return
         with Server(self.program, self.folder / "first.toml", 1, cwd=self.folder) as server:
             port = str(server.operator)
-            self.told(name, [port if it == "PORT" else it for it in words])
+            self.show(name, [port if it == "PORT" else it for it in words])
 
 
 def kind(found, untroubled):
@@ -239,8 +239,8 @@ class Servers:
         how = {"env": self.refusal.env(), "cwd": self.folder}
         return Server(self.program, self.folder / "first.toml", 1, **how)
 
-    def told(self, name, task):
-        print(told(f"server: {name}", self.refusal.in_turn(lambda call: task(self, call))))
+    def show(self, name, task):
+        print(outcome_line(f"server: {name}", self.refusal.in_turn(lambda call: task(self, call))))
 
     def start(self, call):
         """A server that starts also serves; if an allocation fails, it prints only that."""
@@ -285,7 +285,7 @@ class Servers:
             again(server, before)
             return LINE.fullmatch(reply)[1]
 
-    def asked(self, call, line, untroubled, earlier=()):
+    def operate(self, call, line, untroubled, earlier=()):
         def again(server, before):
             if (reply := server.ask(line)) != untroubled(before):
                 raise Wrong(f"again: {reply!r}")
@@ -304,7 +304,7 @@ class Servers:
 
         def other_one(server, _before):
             if (reply := server.ask("load other.toml")) != "generation 2\n":
-                raise Wrong(f"an array of a refused load stands: {reply!r}")
+                raise Wrong(f"an array of a refused load is kept: {reply!r}")
 
         self.at_operator(call, "load next.toml", lambda _: "generation 2\n", other_one)
         return self.at_operator(call, "load next.toml", lambda _: "generation 2\n", next_one)
@@ -351,7 +351,7 @@ class Answers:
             raise Wrong("again: another answer")
         return answer
 
-    def told(self):
+    def show(self):
         refusal = self.servers.refusal
         refusal.ask(0)
         self.cells = {}
@@ -359,18 +359,18 @@ class Answers:
             self.untroubled = without_moment(whole(server.exchange(ASK))[1])
             self.risen(server)
             answers = refusal.in_turn(lambda call: self.twice(server, call))
-            print(told("server: a request of two apps", answers))
+            print(outcome_line("server: a request of two apps", answers))
 
 
 SERVER = {
     "start": Servers.start,
     "load": Servers.load,
-    "show": lambda servers, call: servers.asked(call, "show", lambda before: before[0]),
-    "cells": lambda servers, call: servers.asked(call, "cells", lambda before: before[1]),
-    "state": lambda servers, call: servers.asked(call, "state", lambda before: before[2]),
-    "halt": lambda servers, call: servers.asked(call, "halt x", lambda _: "generation 2\n"),
-    "resume": lambda servers, call: servers.asked(
+    "show": lambda servers, call: servers.operate(call, "show", lambda before: before[0]),
+    "cells": lambda servers, call: servers.operate(call, "cells", lambda before: before[1]),
+    "state": lambda servers, call: servers.operate(call, "state", lambda before: before[2]),
+    "halt": lambda servers, call: servers.operate(call, "halt x", lambda _: "generation 2\n"),
+    "resume": lambda servers, call: servers.operate(
         call, "resume x", lambda _: "generation 3\n", ["halt x"]
     ),
-    "stop": lambda servers, call: servers.asked(call, "stop", lambda _: "stopping\n"),
+    "stop": lambda servers, call: servers.operate(call, "stop", lambda _: "stopping\n"),
 }

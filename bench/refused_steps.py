@@ -5,7 +5,7 @@ import shutil
 import subprocess
 
 from asking import app, manifest, program_of
-from refusing import Wrong, told
+from refusing import Wrong, outcome_line
 
 PATIENCE = 60
 # The last line: what is refused and why, or what a step found out of memory.
@@ -118,4 +118,4 @@ class Steps:
                 raise Wrong(f"again: after {found} the files have other bytes")
             return ended
 
-        print(told(f"rollout stage {name}", self.refusal.in_turn(answer, some)))
+        print(outcome_line(f"rollout stage {name}", self.refusal.in_turn(answer, some)))

@@ -52,7 +52,7 @@ class Refusal:
             found.append(answer)
 
 
-def told(name, answers):
+def outcome_line(name, answers):
     """The output line for a call whose failed allocations had these results."""
     counts = {}
     for answer in answers:

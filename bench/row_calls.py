@@ -152,7 +152,7 @@ class Runner:
     """The programs, and what runs in the background of a folder."""
 
     def __init__(self, programs, folder):
-        self.programs, self.folder, self.behind = programs, folder, []
+        self.programs, self.folder, self.background = programs, folder, []
 
     def command(self, words):
         if words and words[0] in NAMES:
@@ -170,18 +170,18 @@ class Runner:
         process = subprocess.Popen(
             self.command(words_of(text)), cwd=self.folder, env={"PATH": os.environ["PATH"]},
             stdin=subprocess.DEVNULL, stdout=out, stderr=subprocess.PIPE, **how)
-        told = [b"", b""]
-        threads = [threading.Thread(target=self.note, args=(process.stderr, told))]
+        outputs = [b"", b""]
+        threads = [threading.Thread(target=self.note, args=(process.stderr, outputs))]
         if not is_narrow:
-            threads.append(threading.Thread(target=self.take, args=(process.stdout, told)))
+            threads.append(threading.Thread(target=self.take, args=(process.stdout, outputs)))
         for it in threads:
             it.start()
-        return process, told, threads
+        return process, outputs, threads
 
-    def take(self, stream, told):
-        told[0] = stream.read()
+    def take(self, stream, outputs):
+        outputs[0] = stream.read()
 
-    def note(self, stream, told):
+    def note(self, stream, outputs):
         for line in stream:
             if found := LOGGED.match(line.decode(errors="replace")):
                 rest = line.decode(errors="replace")[found.end():]
@@ -189,16 +189,16 @@ class Runner:
                 with open(self.folder / name, "a") as file:
                     file.write(rest)
             elif not NOTED.match(line):
-                told[1] += line
+                outputs[1] += line
 
-    def ended(self, process, told, threads):
+    def ended(self, process, outputs, threads):
         try:
             process.wait(PATIENCE)
         except subprocess.TimeoutExpired:
             process.kill()
         for it in threads:
             it.join(PATIENCE)
-        return process.wait(), *(it.decode(errors="replace") for it in told)
+        return process.wait(), *(it.decode(errors="replace") for it in outputs)
 
     def replied(self, stream):
         bytes_read = b""
@@ -278,10 +278,10 @@ class Runner:
     def do(self, row):
         """The row that this step judges, with what came of it; None if it only begins."""
         if row.mark in ("background", "slowly", "give"):
-            self.behind.append((row, self.start(row)))
+            self.background.append((row, self.start(row)))
             return None
         if row.mark == "wait":
-            begun, end = self.behind.pop()
+            begun, end = self.background.pop()
             return begun, end()
         return row, self.called(row)
 

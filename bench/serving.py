@@ -130,10 +130,10 @@ class Calls:
     def counted(self):
         """All system calls, and those of futex, by which a thread sleeps or wakes another."""
         self.process.send_signal(signal.SIGINT)
-        told = self.process.communicate()[1]
-        found = [re.search(rf"^(\d+) .*{event}", told, re.M) for event in self.EVENTS]
+        output = self.process.communicate()[1]
+        found = [re.search(rf"^(\d+) .*{event}", output, re.M) for event in self.EVENTS]
         if None in found:
-            sys.exit(f"perf counts no system calls: {told}")
+            sys.exit(f"perf counts no system calls: {output}")
         return [int(it[1]) for it in found]
 
 

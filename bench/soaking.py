@@ -50,7 +50,7 @@ class Soak:
             return 0
         if not least <= generation <= self.begun:
             self.fail(f"generation {generation}, of {least} to {self.begun}")
-        self.count("offers of the quota heard", offers)
+        self.count("offers of the quota received", offers)
         return generation
 
     # ---- clients

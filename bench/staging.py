@@ -11,7 +11,7 @@ import threading
 import time
 
 from hosts import awaited, needs
-from operating import ASKED, BUILT, NOTHING, OFFERED, Day
+from operating import BUILT, NOTHING, OFFERED, POSTED, Day
 
 RELEASE = """[[app.release]]
 version = "2.1"
@@ -110,11 +110,11 @@ def halts_any_rule(folder):
     it = Stage(folder / "any", apps, **{"editor.rule": rule, "a/agent.bin": PROGRAM})
     with it.served():
         for app in ("editor", "agent"):
-            if OFFERED not in (said := it.run(ASKED, REQUEST % app)):
+            if OFFERED not in (said := it.run(POSTED, REQUEST % app)):
                 return f"before: {said}"
             if "generation" not in (said := it.stage(f"halt {app} --operator 8081")):
                 return f"halt {app}: {said}"
-            if NOTHING not in (said := it.run(ASKED, REQUEST % app)):
+            if NOTHING not in (said := it.run(POSTED, REQUEST % app)):
                 return f"after halt {app}: {said}"
     if (it.bytes("editor.rule"), it.bytes("a/agent.bin")) != (NONE.encode(), HALTED):
         return "a file isn't the halting one"
@@ -124,7 +124,7 @@ def both_servers(folder):
     """Two servers of one folder are halted by one call, and one of them by a second call."""
     needs("curl")
     it = Stage(folder / "both", **{"editor.rule": RULE % 10000})
-    ask = ASKED.replace("8080", "18107")
+    ask = POSTED.replace("8080", "18107")
     words = it.words("exec rollout serve current.toml --port 18107 --operator 18108 --workers 1")
     with it.served(), subprocess.Popen(words, stdout=subprocess.DEVNULL, **it.place()) as second:
         try:
@@ -252,8 +252,8 @@ def used_quota(folder):
     it = Stage(folder / "quota", arrays=QUOTA, **{"editor.rule": rule})
     with it.served():
         for bucket in range(0, 10000, 400):
-            asked = REQUEST.replace('"version"', f'"cohort":"b:{bucket:04}","version"')
-            it.run(ASKED, asked % "editor")
+            body = REQUEST.replace('"version"', f'"cohort":"b:{bucket:04}","version"')
+            it.run(POSTED, body % "editor")
         said = it.stage("raise editor 10000 --operator 8081")
         if ": used up\n" not in said or SAME not in said or "lost" in said:
             return said
@@ -425,10 +425,10 @@ def halts_in_trouble(folder):
         said = it.stage("halt editor --operator 8081")
         if ", editor is halted\n" not in said or "\n1 " not in said or wanted not in said:
             return f"{case}: {said}"
-        if NOTHING not in (said := it.run(ASKED, REQUEST % "editor")):
+        if NOTHING not in (said := it.run(POSTED, REQUEST % "editor")):
             return f"{case}: offered: {said}"
         it.run("rollout resume editor --operator 8081")
-        if OFFERED not in (said := it.run(ASKED, REQUEST % "editor")):
+        if OFFERED not in (said := it.run(POSTED, REQUEST % "editor")):
             return f"{case}: not offered again: {said}"
         return None
 
@@ -495,8 +495,8 @@ def resumes(folder):
             return f"resume: {said!r} lacks {lost}"
         if it.bytes("editor.rule") != (rule % 100).encode():
             return "the rule isn't cut"
-        asked = REQUEST.replace('"version"', '"cohort":"b:0000","version"')
-        if OFFERED not in (said := it.run(ASKED, asked % "editor")):
+        body = REQUEST.replace('"version"', '"cohort":"b:0000","version"')
+        if OFFERED not in (said := it.run(POSTED, body % "editor")):
             return f"not offered: {said}"
         if "1 stage: editor isn't halted by a step" not in (said := alone(it, "resume editor")):
             return f"resume again: {said}"
@@ -504,7 +504,7 @@ def resumes(folder):
         if "unless it has --counters: rollout stage halt editor keeps it\n" not in said:
             return f"a halt without its note: {said}"
         said = it.stage("raise editor 200 --operator 8081")
-        if NOTHING not in (said := it.run(ASKED, asked % "editor")):
+        if NOTHING not in (said := it.run(POSTED, body % "editor")):
             return f"a server's halt is lifted: {said}"
 
 

@@ -48,18 +48,18 @@ def milliseconds(text):
     return float(number) * UNITS[unit]
 
 
-def share(told, percent):
+def share(output, percent):
     """The percentile of the times, which has its own line in the output."""
-    return milliseconds(re.search(rf"^ +{percent}%\s+(\S+)$", told, re.M)[1])
+    return milliseconds(re.search(rf"^ +{percent}%\s+(\S+)$", output, re.M)[1])
 
 
-def read(told):
-    wrong = re.search(r"(Non-2xx or 3xx responses: \d+|Socket errors: .*)", told)
+def read(output):
+    wrong = re.search(r"(Non-2xx or 3xx responses: \d+|Socket errors: .*)", output)
     return Drive(
-        int(re.search(r"^ +(\d+) requests in ", told, re.M)[1]),
-        float(re.search(r"^Requests/sec:\s+([\d.]+)", told, re.M)[1]),
-        share(told, 50),
-        share(told, 99),
+        int(re.search(r"^ +(\d+) requests in ", output, re.M)[1]),
+        float(re.search(r"^Requests/sec:\s+([\d.]+)", output, re.M)[1]),
+        share(output, 50),
+        share(output, 99),
         wrong[1] if wrong else "",
     )
 

@@ -15,7 +15,7 @@ def looks(night):
     ports = [f"--operator={it.operator}" for it in night.servers]
     words = ["stage", "status", "--folder", str(night.folder), *ports]
     status, output, errors = run(night, [str(night.programs / "rollout-tools"), *words])
-    night.tell("\n".join(f"    {it}" for it in f"status = {status}\n{output}{errors}".splitlines()))
+    night.note("\n".join(f"    {it}" for it in f"status = {status}\n{output}{errors}".splitlines()))
     load, is_same = night.load(), True
     for it in night.servers:
         halts = f", halted: {', '.join(it.halts)}" if it.halts else ""
@@ -54,25 +54,25 @@ def edits(night):
         files = draw_manifest(chance)
         for name, text in files.items():
             night.write(name, text)
-        return night.tell(f"edit: {sorted(files)}")
+        return night.note(f"edit: {sorted(files)}")
     app = chance.choice(load.apps)
     text = draw_file(chance, app.kind) if chance.random() < 0.75 else BAD[app.kind]
     night.write(app.file, text)
-    return night.tell(f"edit: {app.file} is {text!r}")
+    return night.note(f"edit: {app.file} is {text!r}")
 
 
 def restores(night):
     """Somebody mends what is in place, by what a server has, or by new files."""
     up = [it.load for it in night.servers if it.is_up]
     if night.load() is not None:
-        return night.tell("nothing has to be mended")
+        return night.note("nothing has to be mended")
     files = draw_manifest(night.chance)
     if up:
         files = {it.file: text for it, text in zip(up[0].apps, up[0].files)}
         files["current.toml"] = up[0].text
     for name, text in files.items():
         night.write(name, text)
-    return night.tell("edit: files that are right")
+    return night.note("edit: files that are right")
 
 
 def halts_or_resumes(night):
@@ -83,7 +83,7 @@ def halts_or_resumes(night):
     word = night.chance.choice(("halt", "halt", "resume"))
     words = [word, app, "--operator", str(server.operator)]
     status, output, errors = run(night, [str(night.programs / "rollout"), *words])
-    night.tell(f"rollout {' '.join(words)}\n    = {status} {output}{errors}")
+    night.note(f"rollout {' '.join(words)}\n    = {status} {output}{errors}")
     if not server.is_up:
         wanted = (1, "")
     elif app not in (*server.load.appids(), *server.halts):
@@ -109,7 +109,7 @@ def loads(night):
         path = put_elsewhere(night, files)
     words = ["load", str(path), "--operator", str(server.operator)]
     status, output, errors = run(night, [str(night.programs / "rollout"), *words])
-    night.tell(f"rollout {' '.join(words)}\n    = {status} {output}{errors}")
+    night.note(f"rollout {' '.join(words)}\n    = {status} {output}{errors}")
     load, wanted = load_of(files), (1, "")
     if server.is_up and load:
         server.load, server.path, server.generation = load, path, server.generation + 1
@@ -122,7 +122,7 @@ def restarts(night):
     """A server is stopped or killed, and mostly started again."""
     server = night.chance.choice(night.servers)
     is_killed = night.chance.random() < 0.5
-    night.tell(f"server at {server.operator} is {'killed' if is_killed else 'stopped'}")
+    night.note(f"server at {server.operator} is {'killed' if is_killed else 'stopped'}")
     server.end(is_killed)
     if night.chance.random() < 0.8:
         starts(night)
@@ -132,30 +132,30 @@ def starts(night):
     for server in night.servers:
         if not server.is_up:
             server.begin()
-            night.tell(f"server at {server.operator} starts: {server.is_up}")
+            night.note(f"server at {server.operator} starts: {server.is_up}")
 
 
 def damages(night):
     """A record is cut, or written as an older version wrote it; a cut one is mended later."""
     cut = [it for it in night.steps if it.is_damaged]
     if not night.steps:
-        return night.tell("no record is there")
+        return night.note("no record is there")
     step = cut[0] if cut else night.chance.choice(night.steps)
     path = night.folder / ".stage" / f"{step.number}.json"
     if cut:
         path.write_text(step.kept)
         step.is_damaged = False
-        return night.tell(f"record {step.number} is mended")
+        return night.note(f"record {step.number} is mended")
     step.kept = path.read_text()
     if night.chance.random() < 0.5:
         path.write_text(step.kept[: night.chance.randrange(len(step.kept) - 1)])
         step.is_damaged = True
-        return night.tell(f"record {step.number} is cut")
+        return night.note(f"record {step.number} is cut")
     older = json.loads(step.kept)
     for name in ("user", "because", "version"):
         older.pop(name, None)
     if {"resume", "halt_release"} & {*older["action"]}:
-        return night.tell("older versions know no such step")
+        return night.note("older versions know no such step")
     path.write_text(json.dumps(older, separators=(",", ":")) + "\n")
     step.by = step.because = ""
-    return night.tell(f"record {step.number} is as an older version wrote it")
+    return night.note(f"record {step.number} is as an older version wrote it")

@@ -40,7 +40,7 @@ class Night:
         # What was in place before and after each step, also one that is undone, or that replaced
         # nothing and only loaded.
         self.left = []
-        self.complaints, self.told = [], []
+        self.complaints, self.transcript = [], []
 
     def close(self):
         for it in self.servers:
@@ -102,15 +102,15 @@ class Night:
 
     # ---- calls
 
-    def tell(self, text):
-        self.told.append(text)
+    def note(self, text):
+        self.transcript.append(text)
 
     def call(self, call, ahead=(), **how):
         """The status, output and errors of a call of `stage`; `ahead` are words before it."""
         words = [*call.words(), "--folder", str(self.folder)]
-        self.tell("rollout " + " ".join(words) + (f"   # by {' '.join(ahead)}" if ahead else ""))
+        self.note("rollout " + " ".join(words) + (f"   # by {' '.join(ahead)}" if ahead else ""))
         said = run(self, [*ahead, str(self.programs / "rollout-tools"), *words], **how)
-        self.tell("\n".join(f"    {it}" for it in f"= {said[0]}\n{said[1]}{said[2]}".splitlines()))
+        self.note("\n".join(f"    {it}" for it in f"= {said[0]}\n{said[1]}{said[2]}".splitlines()))
         return said
 
     def recorded(self):

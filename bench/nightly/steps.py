@@ -18,7 +18,7 @@ def begin(night):
     for number in range(night.chance.choice((1, 1, 2))):
         night.servers.append(Watched(night, number, night.chance.random() < 0.5))
         night.servers[-1].begin()
-    night.tell(f"servers: {[(it.operator, bool(it.counters)) for it in night.servers]}")
+    night.note(f"servers: {[(it.operator, bool(it.counters)) for it in night.servers]}")
 
 
 def acts(night):
@@ -39,6 +39,6 @@ KINDS = {
 def step(night):
     """One random step, and the comparison after it."""
     kind = night.chance.choices([*KINDS], [*KINDS.values()])[0]
-    night.tell(f"-- {kind.__name__}")
+    night.note(f"-- {kind.__name__}")
     kind(night)
     night.compare()

@@ -114,7 +114,7 @@ def settle_server(night, call, plan, server, says_same, is_whole):
 def acts_under_strace(night):
     """A call that is killed at a write, or of which one is refused."""
     if not shutil.which("strace"):
-        return night.tell("it takes strace")
+        return night.note("it takes strace")
     call = draw_call(night)
     name = night.chance.choice([*ERRORS])
     number = night.chance.randint(1, MOST.get(name, 5))
@@ -137,7 +137,7 @@ def acts_killed_in_time(night):
 def acts_on_a_full_disk(night):
     """A call in a folder without free space."""
     if not night.is_mounted:
-        return night.tell("it takes root")
+        return night.note("it takes root")
     call, filler = draw_call(night), night.folder / ".stage-filler"
     free = night.chance.choice((0, 0, 4096, 8192, 12288))
     room = os.statvfs(night.folder)
@@ -151,7 +151,7 @@ def acts_on_a_full_disk(night):
 def acts_in_a_read_only_folder(night):
     """A call in a folder to which nothing can be written."""
     if not night.is_mounted:
-        return night.tell("it takes root")
+        return night.note("it takes root")
     call = draw_call(night)
     mount = ["mount", "-o", "remount,ro", str(night.folder)]
     subprocess.run(mount, check=True)

@@ -19,7 +19,7 @@ from dataclasses import dataclass
 
 from bpf_code import GREATEST, REGISTERS, Insn, Label, encoded, places
 from bpf_forms import NONE, Point, apart, copied_again, joined, nothing
-from linux_verifier import ALL_PATHS, Known, copies_told
+from linux_verifier import ALL_PATHS, Known, copies_in
 
 # The maximum number of slots of a program.
 MOST_SLOTS = 4096
@@ -65,10 +65,10 @@ def known_at(linux, insns, releases, registers):
         return made
 
     items = apart(insns, more)
-    told = copies_told(linux.judge(encoded(items), releases, ALL_PATHS).log)
+    copies = copies_in(linux.judge(encoded(items), releases, ALL_PATHS).log)
     at_label, found = places(items), {}
     for number, probe in enumerate(probes, 1):
-        known = told.get(at_label["probe", number])
+        known = copies.get(at_label["probe", number])
         before = found.get(probe)
         if known is not None:
             found[probe] = known if before is None else known.joined(before)
@@ -95,7 +95,7 @@ def ranges_before_tests(linux, insns, releases):
     for (point, register), known in found.items():
         range_alone = Known(known.lo, known.hi, 0, GREATEST)
         facts.append(Fact(Point(point.place, "on"), register, range_alone))
-    return telling(facts)
+    return tested(facts)
 
 
 def compared(word, register, number, target):
@@ -122,7 +122,7 @@ def tests(fact, name):
     return made
 
 
-def telling(facts):
+def tested(facts):
     """More code: the tests of these facts."""
     made = []
 
@@ -169,7 +169,7 @@ def kind(insns, fact):
     if not insn.branches():
         return names.get(kinds.get(insn.word, insn.word), "loads")
     if fact.known is not None and fact.register not in (insn.dst, insn.src):
-        return "a jump tells of copies"
+        return "a jump bounds copies"
     if insn.src == insn.dst:
         return "a register is compared with itself"
     if insn.bits == 32:
@@ -181,8 +181,8 @@ def kind(insns, fact):
 
 def cause_of_ours(linux, insns, releases):
     """Why only rollout accepts a program: what Linux forgets, or the last message of its log."""
-    told = encoded(joined(insns, ranges_before_tests(linux, insns, releases)))
-    if linux.judge(told, releases).accepts:
+    code = encoded(joined(insns, ranges_before_tests(linux, insns, releases)))
+    if linux.judge(code, releases).accepts:
         return FORGOTTEN
     return linux.judge(encoded(joined(insns, nothing)), releases).word()
 
@@ -201,8 +201,8 @@ def cause_of_theirs(linux, rollout, insns, releases):
     ]:
 
         def accepts(some, form=form, also=also):
-            told = telling(some)
-            code = encoded(form(insns, lambda point: told(point) + also(point)))
+            more = tested(some)
+            code = encoded(form(insns, lambda point: more(point) + also(point)))
             return len(code) <= 8 * MOST_SLOTS and rollout.judge(code, releases).accepts
 
         count = enough(facts, accepts)

@@ -46,8 +46,8 @@ class Answer:
     def word(self):
         """The last message of the log, before its statistics."""
         figures = ("verification time", "stack depth", "processed", "mark_precise")
-        told = [line for line in self.log if line and not line.startswith(figures)]
-        return told[-1] if told else "no word"
+        messages = [line for line in self.log if line and not line.startswith(figures)]
+        return messages[-1] if messages else "no word"
 
     def processed(self):
         """The number of instructions followed, over all paths."""
@@ -139,11 +139,11 @@ def known_of(text):
     return Known(found["umin"], found["umax"], found["value"], found["value"] | found["mask"])
 
 
-def copies_told(log):
+def copies_in(log):
     """What the log says about a register that is copied onto itself, by slot."""
-    told = {}
+    copies = {}
     for line in log:
         found = re.match(COPY_OF_ITSELF, line)
         if found and (known := known_of(found[3])):
-            told[int(found[1])] = known
-    return told
+            copies[int(found[1])] = known
+    return copies

@@ -45,7 +45,7 @@ struct Ruleset {
 
 struct State {
     ruleset: RwLock<Arc<Ruleset>>,
-    asked: AtomicU64,
+    requests: AtomicU64,
 }
 
 fn package() -> Package {
@@ -132,7 +132,7 @@ fn app_reply(state: &State, ruleset: &Ruleset, request: &Value, app: &Value) -> 
     }
     reply.insert("status".into(), "ok".into());
     if has(app, "updatecheck") {
-        state.asked.fetch_add(1, Ordering::SeqCst);
+        state.requests.fetch_add(1, Ordering::SeqCst);
         let release = known.releases.last().filter(|_| bucket < known.below);
         let answer = release.map_or(json!({"status": "noupdate"}), update);
         reply.insert("updatecheck".into(), answer);
@@ -161,7 +161,7 @@ fn reply(state: &State, body: &[u8], moment: u64) -> Option<String> {
     Some(format!(")]}}'\n{reply}"))
 }
 
-/// The length of the head, and of the body that it tells.
+/// The length of the head, and of the body that it gives.
 fn head(bytes: &[u8]) -> Option<(usize, usize)> {
     let mut headers = [httparse::EMPTY_HEADER; 64];
     let mut request = httparse::Request::new(&mut headers);
@@ -248,7 +248,7 @@ fn serve(state: Arc<State>, port: u16, workers: usize) -> io::Result<()> {
 fn main() -> io::Result<()> {
     let words: Vec<String> = std::env::args().collect();
     let ruleset = if words.get(3).is_some_and(|word| word == "many") { many() } else { worked() };
-    let state = State { ruleset: RwLock::new(Arc::new(ruleset)), asked: AtomicU64::new(0) };
+    let state = State { ruleset: RwLock::new(Arc::new(ruleset)), requests: AtomicU64::new(0) };
     let number = |at: usize| words.get(at).and_then(|word| word.parse::<u64>().ok()).unwrap_or(1);
     match words.get(1).map(String::as_str) {
         Some("serve") => serve(Arc::new(state), number(2) as u16, number(3) as usize),
