@@ -5,6 +5,11 @@ use Rattle.std.specs.Prelude.{ℕ, List, [], ◌∷◌, ◌++◌, length, nat_lt
 abbrev pub grown : List ℕ → ℕ → List ℕ
 grown line b = if nat_lt (length line) 65537 then line ++ b ∷ [] else line
 
+-- with each of these bytes
+abbrev pub grown_by : List ℕ → List ℕ → List ℕ
+grown_by line [] = line
+grown_by line (b ∷ bytes) = grown_by (grown line b) bytes
+
 -- the lines of these bytes, if the first line begins with `begun`
 unfoldable pub lines_after : List ℕ → List ℕ → List (List ℕ)
 lines_after begun [] = if length begun == 0 then [] else begun ∷ []

@@ -4,12 +4,13 @@
 ghost use Rattle.std.specs.Prelude.{◌≡◌, ◌<◌, ◌≤◌, [], ◌∷◌, length, take};
 ghost use Rattle.std.specs.Prelude.{IfNone, IfOk, IfSome, OnOk};
 ghost use Rattle.std.specs.Io.KnownBytes.{Consumes, IsAtEnd};
-ghost use Rattle.report.specs.Lines.{grown, lines_after};
+ghost use Rattle.report.specs.Lines.{grown, grown_by, lines_after};
 ghost use Rattle.report.specs.Reading.{CountsLines, ReadsBlock, ReadsLog};
 
 use crate::counting::Report;
 use crate::log_events::LINE_LIMIT;
 use crate::window::Window;
+use memchr::memchr;
 use std::alloc::{AllocError, Global};
 use std::io::{self, Error, ErrorKind, Read};
 
@@ -106,29 +107,40 @@ fn count_block(
         begun.old.items report.old begun.new.items report.new) }
 {
     let mut left = block;
-    while let [byte, rest @ ..] = left {
-        count_byte(alloc, window, report, begun, *byte)?;
-        left = rest;
+    while !left.is_empty() {
+        let read = count_piece(alloc, window, report, begun, left)?;
+        left = &left[read..];
     }
     Ok(())
 }
 
-// Counts a line if the byte is a line feed; keeps any other byte.
-#[tactic(auto, using(crate::proofs::Read::line_goes_on))]
-fn count_byte(
+// Reads up to the first line feed, with it, or all if there is none. Returns how many bytes that
+// are.
+#[tactic(auto, using(crate::proofs::Pieces::piece_ends, crate::proofs::Pieces::all_goes_on))]
+fn count_piece(
     alloc: Global,
     window: &Window<'_>,
     report: &mut Report,
     begun: &mut Vec<u8>,
-    byte: u8,
-) -> Result<(), AllocError>
-    ensures { OnOk result (ReadsBlock window.now (byte ∷ [])
+    bytes: &[u8],
+) -> Result<usize, AllocError>
+    requires { 0 < length bytes.now }
+    ensures some { IfOk result (λ n. 0 < n) }
+    ensures within { IfOk result (λ n. n ≤ length bytes.now) }
+    ensures reads { IfOk result (λ n. ReadsBlock window.now (take n bytes.now)
         begun.old.items report.old begun.new.items report.new) }
 {
-    if byte == b'\n' {
-        return end_line(alloc, window, report, begun);
+    match memchr(b'\n', bytes) {
+        Some(at) => {
+            append(begun, &bytes[..at])?;
+            end_line(alloc, window, report, begun)?;
+            Ok(at + 1)
+        }
+        None => {
+            append(begun, bytes)?;
+            Ok(bytes.len())
+        }
     }
-    append_byte(begun, byte)
 }
 
 #[tactic(auto, using(crate::proofs::Read::line_ends))]
@@ -143,6 +155,30 @@ fn end_line(
 {
     report.count_line(alloc, window, begun.as_slice())?;
     begun.clear();
+    Ok(())
+}
+
+// Appends bytes to the line, up to `LINE_BUFFER_BYTES` bytes.
+#[tactic(auto, using(crate::proofs::Pieces::appended_few))]
+fn append(begun: &mut Vec<u8>, bytes: &[u8]) -> Result<(), AllocError>
+    ensures { OnOk result (begun.new.items ≡ grown_by begun.old.items bytes.now) }
+{
+    let length = begun.len();
+    if length <= LINE_BUFFER_BYTES && bytes.len() <= LINE_BUFFER_BYTES - length {
+        begun.extend_from_slice(bytes)?;
+        return Ok(());
+    }
+    append_each(begun, bytes)
+}
+
+fn append_each(begun: &mut Vec<u8>, bytes: &[u8]) -> Result<(), AllocError>
+    ensures { OnOk result (begun.new.items ≡ grown_by begun.old.items bytes.now) }
+{
+    let mut left = bytes;
+    while let [byte, rest @ ..] = left {
+        append_byte(begun, *byte)?;
+        left = rest;
+    }
     Ok(())
 }
 
