@@ -1,5 +1,8 @@
+pub mod Borrowed
+pub mod Bytes
 pub mod Counted
 pub mod Loops
+pub mod Numbers
 pub mod Pieces
 pub mod Read
 pub mod Tallied

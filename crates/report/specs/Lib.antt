@@ -1,6 +1,7 @@
 pub mod Tallies
 pub mod Lines
 pub mod LogEvents
+pub mod Borrowed
 pub mod Members
 pub mod Windows
 pub mod Names

@@ -2,7 +2,8 @@
 
 ghost use Rattle.std.specs.Prelude.{◌≡◌, [], ◌∷◌, None, Some, IfOk, OnOk};
 ghost use Rattle.std.specs.Prelude.{option_and_then, option_map};
-ghost use Rattle.serde_json.specs.View.{view};
+ghost use Rattle.json.specs.Value.{value_view};
+ghost use Rattle.report.specs.Borrowed.{data_of};
 ghost use Rattle.report.specs.Counts as specs;
 ghost use Rattle.report.specs.Questions.{AreTallies, tally_named};
 ghost use Rattle.report.specs.Reading.{CountsLines};
@@ -16,7 +17,7 @@ use crate::question::{QUESTIONS, Question};
 use crate::responses::longest_wait_in;
 use crate::tally::Tally;
 use crate::window::Window;
-use serde_json::Value;
+use json::{Scratch, Value};
 use std::alloc::{AllocError, Global};
 
 /// The numbers of lines, and the table of each question.
@@ -67,20 +68,22 @@ impl Report {
     /// Counts a line, given without its line feed. If an allocation fails, the line may be partly
     /// counted.
     #[tactic(auto, using(crate::proofs::Counted::counts_one))]
-    pub fn count_line(
+    pub(crate) fn count_line(
         &mut self,
         alloc: Global,
+        scratch: &mut Scratch,
         window: &Window<'_>,
         line: &[u8],
     ) -> Result<(), AllocError>
         ensures { OnOk result (CountsLines window.now (line.now ∷ []) self.old self.new) }
     {
-        self.add_line(alloc, window, line)
+        self.add_line(alloc, scratch, window, line)
     }
 
     fn add_line(
         &mut self,
         alloc: Global,
+        scratch: &mut Scratch,
         window: &Window<'_>,
         line: &[u8],
     ) -> Result<(), AllocError>
@@ -88,7 +91,7 @@ impl Report {
             (specs.AddsLine (event_in line.now) (event_in_window window.now line.now) self.old
             self.new) }
     {
-        match value_in(alloc, line)? {
+        match value_in(alloc, scratch, line)? {
             Some(value) => {
                 let counted = self.add_value(alloc, window, &value);
                 drop(value);
@@ -113,10 +116,10 @@ impl Report {
         &mut self,
         alloc: Global,
         window: &Window<'_>,
-        value: &Value,
+        value: &Value<'_>,
     ) -> Result<(), AllocError>
-        ensures { OnOk result (specs.AddsLine (event_of (view value.now))
-            (option_and_then (if_within window.now) (event_of (view value.now)))
+        ensures { OnOk result (specs.AddsLine (event_of (data_of (value_view value.now)))
+            (option_and_then (if_within window.now) (event_of (data_of (value_view value.now))))
             self.old self.new) }
     {
         if is_event(value) {
@@ -131,10 +134,12 @@ impl Report {
         &mut self,
         alloc: Global,
         window: &Window<'_>,
-        event: &Value,
+        event: &Value<'_>,
     ) -> Result<(), AllocError>
-        ensures { OnOk result (specs.AddsLine (Some (line_members (view event.now)))
-            (if_within window.now (line_members (view event.now))) self.old self.new) }
+        ensures { OnOk result (specs.AddsLine
+            (Some (line_members (data_of (value_view event.now))))
+            (if_within window.now (line_members (data_of (value_view event.now))))
+            self.old self.new) }
     {
         if is_within(window, event) {
             let line = LogLine::of(alloc, event)?;

@@ -7,12 +7,15 @@
 #![tactic(auto)]
 
 mod app_names;
+mod borrowed_json;
 mod chart_names;
 mod counters;
 mod counting;
 mod events;
 mod exposition;
+mod json_range;
 mod labels;
+mod line_members;
 mod line_names;
 mod log_events;
 mod log_line;
@@ -29,10 +32,12 @@ mod screen;
 mod tally;
 mod window;
 
+pub use borrowed_json::read_borrowed;
 pub use counters::counters_text;
 pub use counting::Report;
 pub use exposition::exposition_text;
 pub use labels::push_label;
+pub use line_members::{flag_at, list_at, member_at, number_at, text_at};
 pub use log_events::{flag_in, list_in, number_in, text_in};
 pub use log_lines::{LogOnlooker, count_log};
 pub use metrics::MetricKind;

@@ -2,13 +2,17 @@
 
 ghost use Rattle.std.specs.Prelude.{◌≡◌, IfOk, codes, option_map};
 ghost use Rattle.std.specs.Option.{option_copied};
+ghost use Rattle.json.specs.Value.{value_view};
 ghost use Rattle.serde_json.specs.View.{view, items_view};
+ghost use Rattle.report.specs.Borrowed.{data_of};
 ghost use Rattle.report.specs.LogEvents as specs;
 ghost use Rattle.report.specs.Members.{line_members};
 ghost use Rattle.report.specs.Windows as windows;
 
+use crate::borrowed_json::read_borrowed;
+use crate::line_members::text_at;
 use crate::window::Window;
-use json_value::read_json;
+use json::{Scratch, Value as LineValue};
 use serde_json::Value;
 use std::alloc::{AllocError, Global};
 
@@ -80,27 +84,33 @@ pub(crate) fn is_text(text: &str, found: Option<&str>) -> bool
 }
 
 /// The JSON value of a line, unless the line is too long for a server's.
-pub(crate) fn value_in(alloc: Global, line: &[u8]) -> Result<Option<Value>, AllocError>
-    ensures { IfOk result (λ v. option_map view v ≡ windows.value_in line.now) }
+pub(crate) fn value_in<'a>(
+    alloc: Global,
+    scratch: &'a mut Scratch,
+    line: &'a [u8],
+) -> Result<Option<LineValue<'a>>, AllocError>
+    ensures { IfOk result (λ v.
+        option_map (λ v. data_of (value_view v)) v ≡ windows.value_in line.now) }
 {
     if line.len() > LINE_LIMIT {
         return Ok(None);
     }
-    read_json(alloc, line)
+    read_borrowed(alloc, scratch, line)
 }
 
 /// Whether a line has a time and a kind.
-pub(crate) fn is_event(line: &Value) -> bool
-    ensures { result ≡ windows.is_event (line_members (view line.now)) }
+pub(crate) fn is_event(line: &LineValue<'_>) -> bool
+    ensures { result ≡ windows.is_event (line_members (data_of (value_view line.now))) }
 {
-    text_in(line, "time").is_some() && text_in(line, "kind").is_some()
+    text_at(line, "time").is_some() && text_at(line, "kind").is_some()
 }
 
 /// Whether a line is in the window.
-pub(crate) fn is_within(window: &Window<'_>, line: &Value) -> bool
-    ensures { result ≡ windows.is_within window.now (specs.text_in (codes "time") (view line.now)) }
+pub(crate) fn is_within(window: &Window<'_>, line: &LineValue<'_>) -> bool
+    ensures { result ≡ windows.is_within window.now
+        (specs.text_in (codes "time") (data_of (value_view line.now))) }
 {
-    match text_in(line, "time") {
+    match text_at(line, "time") {
         Some(time) => window.has(time),
         None => false,
     }

@@ -3,12 +3,14 @@
 
 ghost use Rattle.std.specs.Prelude.{◌≡◌, ◌++◌, IfOk, codes, decimal};
 ghost use Rattle.std.specs.String.{string_bytes};
-ghost use Rattle.serde_json.specs.View.{view, items_view};
+ghost use Rattle.json.specs.Value.{value_view, items_view};
+ghost use Rattle.report.specs.Borrowed.{data_of, items_data};
 ghost use Rattle.report.specs.Members as specs;
 ghost use Rattle.report.specs.Windows.{is_kind};
 
-use crate::log_events::{flag_in, is_text, list_in, number_in, text_in};
-use serde_json::Value;
+use crate::line_members::{flag_at, list_at, number_at, text_at};
+use crate::log_events::is_text;
+use json::Value;
 use std::alloc::{AllocError, Global};
 use std::marker::Model;
 
@@ -96,26 +98,27 @@ impl<'a> Model for LogLine<'a> {
 }
 
 impl<'a> LogApp<'a> {
-    fn of(app: &'a Value) -> LogApp<'a>
-        ensures { result ≡ specs.app_members (view app.now) }
+    fn of(app: &Value<'a>) -> LogApp<'a>
+        ensures { result ≡ specs.app_members (data_of (value_view app.now)) }
     {
         LogApp {
-            appid: text_in(app, "appid"),
-            version: text_in(app, "version"),
-            release: text_in(app, "release"),
-            event: text_in(app, "event"),
-            choice: number_in(app, "choice"),
-            bucket: number_in(app, "bucket"),
-            event_left_out: number_in(app, "event_left_out"),
-            unknown: flag_in(app, "unknown"),
-            named: flag_in(app, "named"),
+            appid: text_at(app, "appid"),
+            version: text_at(app, "version"),
+            release: text_at(app, "release"),
+            event: text_at(app, "event"),
+            choice: number_at(app, "choice"),
+            bucket: number_at(app, "bucket"),
+            event_left_out: number_at(app, "event_left_out"),
+            unknown: flag_at(app, "unknown"),
+            named: flag_at(app, "named"),
         }
     }
 }
 
 // The members of each app.
-fn each_app<'a>(alloc: Global, values: &'a [Value]) -> Result<Vec<LogApp<'a>>, AllocError>
-    ensures { IfOk result (λ apps. apps.items ≡ specs.each_app (items_view values.now)) }
+fn each_app<'a>(alloc: Global, values: &[Value<'a>]) -> Result<Vec<LogApp<'a>>, AllocError>
+    ensures { IfOk result
+        (λ apps. apps.items ≡ specs.each_app (items_data (items_view values.now))) }
 {
     let mut apps = Vec::with_capacity(alloc, values.len())?;
     let mut left = values;
@@ -127,30 +130,30 @@ fn each_app<'a>(alloc: Global, values: &'a [Value]) -> Result<Vec<LogApp<'a>>, A
 }
 
 // The apps of a line, if it is a connection's.
-fn apps_in<'a>(alloc: Global, line: &'a Value) -> Result<Vec<LogApp<'a>>, AllocError>
-    ensures { IfOk result (λ apps. apps.items ≡ specs.apps_in (view line.now)) }
+fn apps_in<'a>(alloc: Global, line: &Value<'a>) -> Result<Vec<LogApp<'a>>, AllocError>
+    ensures { IfOk result (λ apps. apps.items ≡ specs.apps_in (data_of (value_view line.now))) }
 {
-    if !is_text("connection", text_in(line, "kind")) {
+    if !is_text("connection", text_at(line, "kind")) {
         return Ok(Vec::new(alloc));
     }
-    match list_in(line, "apps") {
+    match list_at(line, "apps") {
         Some(values) => each_app(alloc, values),
         None => Ok(Vec::new(alloc)),
     }
 }
 
-fn is_totals(line: &Value) -> bool
-    ensures { result ≡ specs.is_totals (view line.now) }
+fn is_totals(line: &Value<'_>) -> bool
+    ensures { result ≡ specs.is_totals (data_of (value_view line.now)) }
 {
-    is_text("totals", text_in(line, "kind"))
+    is_text("totals", text_at(line, "kind"))
 }
 
 // A number of a line of totals, or 0.
-fn totals_number(line: &Value, name: &str) -> u64
-    ensures { result ≡ specs.totals_number name.now (view line.now) }
+fn totals_number(line: &Value<'_>, name: &str) -> u64
+    ensures { result ≡ specs.totals_number name.now (data_of (value_view line.now)) }
 {
     if is_totals(line) {
-        number_in(line, name).unwrap_or(0)
+        number_at(line, name).unwrap_or(0)
     } else {
         0
     }
@@ -163,9 +166,13 @@ fn member_of(alloc: Global, status: u64) -> Result<String, AllocError>
 }
 
 // Each status with the number of replies of it.
-fn each_status(alloc: Global, line: &Value, statuses: &[u64]) -> Result<Vec<(u64, u64)>, AllocError>
+fn each_status(
+    alloc: Global,
+    line: &Value<'_>,
+    statuses: &[u64],
+) -> Result<Vec<(u64, u64)>, AllocError>
     ensures { IfOk result
-        (λ found. found.items ≡ specs.each_status (view line.now) statuses.now) }
+        (λ found. found.items ≡ specs.each_status (data_of (value_view line.now)) statuses.now) }
 {
     let mut found = Vec::with_capacity(alloc, statuses.len())?;
     let mut left = statuses;
@@ -178,8 +185,9 @@ fn each_status(alloc: Global, line: &Value, statuses: &[u64]) -> Result<Vec<(u64
     Ok(found)
 }
 
-fn responses_in(alloc: Global, line: &Value) -> Result<Vec<(u64, u64)>, AllocError>
-    ensures { IfOk result (λ found. found.items ≡ specs.responses_in (view line.now)) }
+fn responses_in(alloc: Global, line: &Value<'_>) -> Result<Vec<(u64, u64)>, AllocError>
+    ensures { IfOk result
+        (λ found. found.items ≡ specs.responses_in (data_of (value_view line.now))) }
 {
     if !is_totals(line) {
         return Ok(Vec::new(alloc));
@@ -189,23 +197,24 @@ fn responses_in(alloc: Global, line: &Value) -> Result<Vec<(u64, u64)>, AllocErr
 
 impl<'a> LogLine<'a> {
     /// The members of a line.
-    pub(crate) fn of(alloc: Global, line: &'a Value) -> Result<LogLine<'a>, AllocError>
-        ensures { IfOk result (λ members. members ≡ specs.line_members (view line.now)) }
+    pub(crate) fn of(alloc: Global, line: &Value<'a>) -> Result<LogLine<'a>, AllocError>
+        ensures { IfOk result
+            (λ members. members ≡ specs.line_members (data_of (value_view line.now))) }
     {
         let responses = responses_in(alloc, line)?;
         let apps = apps_in(alloc, line)?;
         Ok(LogLine {
-            time: text_in(line, "time"),
-            kind: text_in(line, "kind"),
-            refusal: text_in(line, "refusal"),
-            path: text_in(line, "path"),
-            digest: text_in(line, "digest"),
-            status: number_in(line, "status"),
-            generation: number_in(line, "generation"),
-            lines: number_in(line, "lines"),
-            left_out: number_in(line, "left_out"),
-            offers_left_out: number_in(line, "offers_left_out"),
-            id: flag_in(line, "id"),
+            time: text_at(line, "time"),
+            kind: text_at(line, "kind"),
+            refusal: text_at(line, "refusal"),
+            path: text_at(line, "path"),
+            digest: text_at(line, "digest"),
+            status: number_at(line, "status"),
+            generation: number_at(line, "generation"),
+            lines: number_at(line, "lines"),
+            left_out: number_at(line, "left_out"),
+            offers_left_out: number_at(line, "offers_left_out"),
+            id: flag_at(line, "id"),
             apps,
             responses,
             dropped: totals_number(line, "dropped"),

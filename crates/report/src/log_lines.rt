@@ -10,6 +10,7 @@ ghost use Rattle.report.specs.Reading.{CountsLines, ReadsBlock, ReadsLog};
 use crate::counting::Report;
 use crate::log_events::LINE_LIMIT;
 use crate::window::Window;
+use json::Scratch;
 use memchr::memchr;
 use std::alloc::{AllocError, Global};
 use std::io::{self, Error, ErrorKind, Read};
@@ -59,18 +60,26 @@ fn count_by_blocks<R: Read, O: LogOnlooker>(
     requires { 0 < length block.old }
     ensures { OnOk result (ReadsLog window.now (R.remaining reader.old) report.old report.new) }
 {
+    let mut scratch = Scratch::new(alloc);
     let mut begun = Vec::new(alloc);
     let mut bytes = 0;
     for _ in 0..u64::MAX {
         let read = read_some(reader, block)?;
         match read {
             Some(count) => {
-                count_block(alloc, window, report, &mut begun, &block[..count])?;
+                count_block(
+                    alloc,
+                    &mut scratch,
+                    window,
+                    report,
+                    &mut begun,
+                    &block[..count],
+                )?;
                 bytes = u64::saturating_add(bytes, count as u64);
                 onlooker.read(bytes);
             }
             None => {
-                count_last(alloc, window, report, begun.as_slice())?;
+                count_last(alloc, &mut scratch, window, report, begun.as_slice())?;
                 return Ok(());
             }
         }
@@ -98,6 +107,7 @@ fn read_some<R: Read>(reader: &mut R, block: &mut [u8]) -> io::Result<Option<usi
 // Counts the lines that end in a block, and keeps the rest.
 fn count_block(
     alloc: Global,
+    scratch: &mut Scratch,
     window: &Window<'_>,
     report: &mut Report,
     begun: &mut Vec<u8>,
@@ -108,7 +118,7 @@ fn count_block(
 {
     let mut left = block;
     while !left.is_empty() {
-        let read = count_piece(alloc, window, report, begun, left)?;
+        let read = count_piece(alloc, scratch, window, report, begun, left)?;
         left = &left[read..];
     }
     Ok(())
@@ -119,6 +129,7 @@ fn count_block(
 #[tactic(auto, using(crate::proofs::Pieces::piece_ends, crate::proofs::Pieces::all_goes_on))]
 fn count_piece(
     alloc: Global,
+    scratch: &mut Scratch,
     window: &Window<'_>,
     report: &mut Report,
     begun: &mut Vec<u8>,
@@ -133,7 +144,7 @@ fn count_piece(
     match memchr(b'\n', bytes) {
         Some(at) => {
             append(begun, &bytes[..at])?;
-            end_line(alloc, window, report, begun)?;
+            end_line(alloc, scratch, window, report, begun)?;
             Ok(at + 1)
         }
         None => {
@@ -146,6 +157,7 @@ fn count_piece(
 #[tactic(auto, using(crate::proofs::Read::line_ends))]
 fn end_line(
     alloc: Global,
+    scratch: &mut Scratch,
     window: &Window<'_>,
     report: &mut Report,
     begun: &mut Vec<u8>,
@@ -153,7 +165,7 @@ fn end_line(
     ensures { OnOk result (ReadsBlock window.now (10 ∷ [])
         begun.old.items report.old begun.new.items report.new) }
 {
-    report.count_line(alloc, window, begun.as_slice())?;
+    report.count_line(alloc, scratch, window, begun.as_slice())?;
     begun.clear();
     Ok(())
 }
@@ -196,6 +208,7 @@ fn append_byte(begun: &mut Vec<u8>, byte: u8) -> Result<(), AllocError>
 #[tactic(auto, using(crate::proofs::Read::last_line))]
 fn count_last(
     alloc: Global,
+    scratch: &mut Scratch,
     window: &Window<'_>,
     report: &mut Report,
     begun: &[u8],
@@ -206,5 +219,5 @@ fn count_last(
     if begun.is_empty() {
         return Ok(());
     }
-    report.count_line(alloc, window, begun)
+    report.count_line(alloc, scratch, window, begun)
 }
