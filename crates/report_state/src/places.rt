@@ -5,9 +5,10 @@ ghost use Rattle.report_state.specs.Places.{AreApart};
 
 use crate::noting::note_place;
 use hex::FromHexError;
+use json::Value;
 use json_value::ObjectBuilder;
-use report::{list_in, number_in, text_in};
-use serde_json::Value;
+use report::{list_at, number_at, text_at};
+use serde_json::Value as WrittenValue;
 use std::alloc::{AllocError, Global};
 use std::marker::Model;
 
@@ -29,11 +30,15 @@ impl Model for LogPlace {
 }
 
 // Adds the place that a value says, and returns whether it says one.
-fn add_place(alloc: Global, places: &mut Vec<LogPlace>, value: &Value) -> Result<bool, AllocError> {
-    let Some(counted) = number_in(value, "counted") else {
+fn add_place(
+    alloc: Global,
+    places: &mut Vec<LogPlace>,
+    value: &Value<'_>,
+) -> Result<bool, AllocError> {
+    let Some(counted) = number_at(value, "counted") else {
         return Ok(false);
     };
-    let Some(text) = text_in(value, "beginning") else {
+    let Some(text) = text_at(value, "beginning") else {
         return Ok(false);
     };
     match hex::decode(alloc, text.as_bytes()) {
@@ -47,8 +52,8 @@ fn add_place(alloc: Global, places: &mut Vec<LogPlace>, value: &Value) -> Result
 }
 
 // The places that values say; none if one of them is malformed.
-fn said_places(alloc: Global, state: &Value) -> Result<Option<Vec<LogPlace>>, AllocError> {
-    let Some(values) = list_in(state, "logs") else {
+fn said_places(alloc: Global, state: &Value<'_>) -> Result<Option<Vec<LogPlace>>, AllocError> {
+    let Some(values) = list_at(state, "logs") else {
         return Ok(None);
     };
     let mut places = Vec::new(alloc);
@@ -74,7 +79,10 @@ fn apart(alloc: Global, said: Vec<LogPlace>) -> Result<Vec<LogPlace>, AllocError
 
 /// The places of a state's member `logs`; none if one of them is malformed. States of earlier
 /// versions may have two places in one log.
-pub(crate) fn places_in(alloc: Global, state: &Value) -> Result<Option<Vec<LogPlace>>, AllocError>
+pub(crate) fn places_in(
+    alloc: Global,
+    state: &Value<'_>,
+) -> Result<Option<Vec<LogPlace>>, AllocError>
     ensures { IfOk result (λ o. IfSome o (λ places. AreApart places.items)) }
 {
     match said_places(alloc, state)? {
@@ -83,16 +91,19 @@ pub(crate) fn places_in(alloc: Global, state: &Value) -> Result<Option<Vec<LogPl
     }
 }
 
-fn place_value(alloc: Global, place: &LogPlace) -> Result<Value, AllocError> {
+fn place_value(alloc: Global, place: &LogPlace) -> Result<WrittenValue, AllocError> {
     let beginning = hex::encode(alloc, place.beginning.as_slice())?;
     let mut value = ObjectBuilder::new(alloc);
-    value.put("beginning", Ok(Value::String(beginning)));
+    value.put("beginning", Ok(WrittenValue::String(beginning)));
     value.put_number("counted", place.counted);
     value.finish()
 }
 
 /// The member `logs` of a state.
-pub(crate) fn place_values(alloc: Global, places: &[LogPlace]) -> Result<Vec<Value>, AllocError> {
+pub(crate) fn place_values(
+    alloc: Global,
+    places: &[LogPlace],
+) -> Result<Vec<WrittenValue>, AllocError> {
     let mut values = Vec::with_capacity(alloc, places.len())?;
     for place in places {
         values.push(place_value(alloc, place)?)?;

@@ -1,37 +1,40 @@
 //! Whether a value of JSON is these counts.
 
 ghost use Rattle.std.specs.Prelude.{◌≡◌, IsSomeAnd, true, unwrap_or};
-ghost use Rattle.serde_json.specs.View.{items_view, view};
+ghost use Rattle.json.specs.Value.{items_view, value_view};
+ghost use Rattle.report.specs.Borrowed.{data_of, items_data};
 ghost use Rattle.report.specs.LogEvents.{number_in};
 ghost use Rattle.report_state.specs.States as specs;
 
+use json::Value;
 use report::{
-    LineQuestion, QUESTIONS, Question, Report, Tally, flag_in, list_in, number_in, text_in,
+    LineQuestion, QUESTIONS, Question, Report, Tally, flag_at, list_at, member_at, number_at,
+    text_at,
 };
-use serde_json::Value;
 use std::collections::BTreeMap;
 
 /// Whether the member of this name is the number.
-pub(crate) fn is_number(value: &Value, name: &str, number: u64) -> bool
-    ensures { result ≡ true → specs.HasNumber (view value.now) name.now number }
+pub(crate) fn is_number(value: &Value<'_>, name: &str, number: u64) -> bool
+    ensures { result ≡ true → specs.HasNumber (data_of (value_view value.now)) name.now number }
 {
-    match number_in(value, name) {
+    match number_at(value, name) {
         Some(found) => found == number,
         None => false,
     }
 }
 
-fn is_row(value: &Value, name: &str, count: u64) -> bool
-    ensures { result ≡ true → specs.IsRow (view value.now) name.now count }
+fn is_row(value: &Value<'_>, name: &str, count: u64) -> bool
+    ensures { result ≡ true → specs.IsRow (data_of (value_view value.now)) name.now count }
 {
-    match text_in(value, "name") {
+    match text_at(value, "name") {
         Some(found) => is_number(value, "count", count) && found == name,
         None => false,
     }
 }
 
-fn are_rows(values: &[Value], rows: &BTreeMap<String, u64>) -> bool
-    ensures { result ≡ true → specs.AreRows (items_view values.now) rows.now.entries }
+fn are_rows(values: &[Value<'_>], rows: &BTreeMap<String, u64>) -> bool
+    ensures { result ≡ true
+        → specs.AreRows (items_data (items_view values.now)) rows.now.entries }
 {
     let mut left = values;
     for (name, count) in rows.iter() {
@@ -47,10 +50,10 @@ fn are_rows(values: &[Value], rows: &BTreeMap<String, u64>) -> bool
 }
 
 /// Whether a value has the members of a table.
-pub(crate) fn is_table(value: &Value, tally: &Tally) -> bool
-    ensures { result ≡ true → specs.IsTable tally.now (view value.now) }
+pub(crate) fn is_table(value: &Value<'_>, tally: &Tally) -> bool
+    ensures { result ≡ true → specs.IsTable tally.now (data_of (value_view value.now)) }
 {
-    match list_in(value, "rows") {
+    match list_at(value, "rows") {
         Some(rows) => {
             is_number(value, "limit", tally.limit() as u64)
                 && is_number(value, "others", tally.others())
@@ -77,27 +80,28 @@ fn may_lack(question: Question) -> bool
     }
 }
 
-fn has_table(value: &Value, question: Question, tally: &Tally) -> bool
-    ensures { result ≡ true → specs.HasTable (view value.now) question tally.now }
+fn has_table(value: &Value<'_>, question: Question, tally: &Tally) -> bool
+    ensures { result ≡ true → specs.HasTable (data_of (value_view value.now)) question tally.now }
 {
-    match value.get(question.member()) {
+    match member_at(value, question.member()) {
         Some(table) => is_table(table, tally),
         None => may_lack(question) && is_unused(tally),
     }
 }
 
 // Whether the member of this name is the number, or both are missing.
-fn is_number_or_none(value: &Value, name: &str, number: u64) -> bool
-    ensures { result ≡ true → unwrap_or (number_in name.now (view value.now)) 0 ≡ number }
+fn is_number_or_none(value: &Value<'_>, name: &str, number: u64) -> bool
+    ensures { result ≡ true
+        → unwrap_or (number_in name.now (data_of (value_view value.now))) 0 ≡ number }
 {
-    match number_in(value, name) {
+    match number_at(value, name) {
         Some(found) => found == number,
         None => number == 0,
     }
 }
 
-fn has_numbers(value: &Value, report: &Report) -> bool
-    ensures { result ≡ true → specs.HasNumbers (view value.now) report.now }
+fn has_numbers(value: &Value<'_>, report: &Report) -> bool
+    ensures { result ≡ true → specs.HasNumbers (data_of (value_view value.now)) report.now }
 {
     is_number(value, "lines", report.lines)
         && is_number(value, "foreign", report.foreign)
@@ -107,8 +111,9 @@ fn has_numbers(value: &Value, report: &Report) -> bool
         && is_number_or_none(value, "longest_wait", report.longest_wait)
 }
 
-fn has_tables(value: &Value, questions: &[Question], tallies: &[Tally]) -> bool
-    ensures { result ≡ true → specs.HasTables (view value.now) questions.now tallies.now }
+fn has_tables(value: &Value<'_>, questions: &[Question], tallies: &[Tally]) -> bool
+    ensures { result ≡ true
+        → specs.HasTables (data_of (value_view value.now)) questions.now tallies.now }
 {
     let mut asked = questions;
     let mut left = tallies;
@@ -125,17 +130,17 @@ fn has_tables(value: &Value, questions: &[Question], tallies: &[Tally]) -> bool
     left.is_empty()
 }
 
-fn is_drawn(value: &Value, drawn: bool) -> bool
-    ensures { result ≡ true → specs.IsDrawn (view value.now) drawn }
+fn is_drawn(value: &Value<'_>, drawn: bool) -> bool
+    ensures { result ≡ true → specs.IsDrawn (data_of (value_view value.now)) drawn }
 {
-    match flag_in(value, "drawn") {
+    match flag_at(value, "drawn") {
         Some(found) => found == drawn,
         None => false,
     }
 }
 
-fn is_report(value: &Value, report: &Report) -> bool
-    ensures { result ≡ true → specs.IsReport report.now (view value.now) }
+fn is_report(value: &Value<'_>, report: &Report) -> bool
+    ensures { result ≡ true → specs.IsReport report.now (data_of (value_view value.now)) }
 {
     has_numbers(value, report)
         && is_drawn(value, report.drawn)
@@ -143,10 +148,10 @@ fn is_report(value: &Value, report: &Report) -> bool
 }
 
 /// Whether a state's member `counts` is these counts.
-pub(crate) fn has_counts(state: &Value, report: &Report) -> bool
-    ensures { result ≡ true → specs.HasCounts report.now (view state.now) }
+pub(crate) fn has_counts(state: &Value<'_>, report: &Report) -> bool
+    ensures { result ≡ true → specs.HasCounts report.now (data_of (value_view state.now)) }
 {
-    match state.get("counts") {
+    match member_at(state, "counts") {
         Some(counts) => is_report(counts, report),
         None => false,
     }

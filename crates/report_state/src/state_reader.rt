@@ -1,7 +1,8 @@
 //! Reads a state.
 
 ghost use Rattle.std.specs.Prelude.{IfOk, IfSome};
-ghost use Rattle.serde_json.specs.View.{view};
+ghost use Rattle.json.specs.Value.{value_view};
+ghost use Rattle.report.specs.Borrowed.{data_of};
 ghost use Rattle.report_state.specs.Places.{AreApart};
 ghost use Rattle.report_state.specs.States.{HasCounts, HasCourse, SpellsCounts, SpellsCourse};
 
@@ -9,9 +10,11 @@ use crate::course::Course;
 use crate::course_text::{course_in, has_course};
 use crate::places::{LogPlace, places_in};
 use crate::spelling::has_counts;
-use json_value::read_json;
-use report::{QUESTIONS, Question, Report, Tally, flag_in, list_in, number_in, text_in};
-use serde_json::Value;
+use json::{Scratch, Value};
+use report::{
+    QUESTIONS, Question, Report, Tally, flag_at, list_at, member_at, number_at, read_borrowed,
+    text_at,
+};
 use std::alloc::{AllocError, Global};
 
 /// What is counted, the place in each log up to which it is, and what a page draws, if a call has
@@ -23,11 +26,11 @@ pub struct ReportState {
     pub course: Option<Course>,
 }
 
-fn fill_row(alloc: Global, value: &Value, tally: &mut Tally) -> Result<(), AllocError> {
-    let Some(name) = text_in(value, "name") else {
+fn fill_row(alloc: Global, value: &Value<'_>, tally: &mut Tally) -> Result<(), AllocError> {
+    let Some(name) = text_at(value, "name") else {
         return Ok(());
     };
-    let Some(count) = number_in(value, "count") else {
+    let Some(count) = number_at(value, "count") else {
         return Ok(());
     };
     tally.set(String::from_str(alloc, name)?, count)
@@ -36,15 +39,15 @@ fn fill_row(alloc: Global, value: &Value, tally: &mut Tally) -> Result<(), Alloc
 /// Fills a table with what the member of this name says; if it is malformed, some rows are missing.
 pub(crate) fn fill(
     alloc: Global,
-    counts: &Value,
+    counts: &Value<'_>,
     name: &str,
     tally: &mut Tally,
 ) -> Result<(), AllocError> {
-    let Some(table) = counts.get(name) else {
+    let Some(table) = member_at(counts, name) else {
         return Ok(());
     };
-    tally.set_others(number_in(table, "others").unwrap_or(0));
-    if let Some(rows) = list_in(table, "rows") {
+    tally.set_others(number_at(table, "others").unwrap_or(0));
+    if let Some(rows) = list_at(table, "rows") {
         for row in rows {
             fill_row(alloc, row, tally)?;
         }
@@ -52,17 +55,17 @@ pub(crate) fn fill(
     Ok(())
 }
 
-fn fill_numbers(counts: &Value, report: &mut Report) {
-    report.lines = number_in(counts, "lines").unwrap_or(0);
-    report.foreign = number_in(counts, "foreign").unwrap_or(0);
-    report.lost = number_in(counts, "lost").unwrap_or(0);
-    report.left_out = number_in(counts, "left_out").unwrap_or(0);
-    report.offers_left_out = number_in(counts, "offers_left_out").unwrap_or(0);
-    report.longest_wait = number_in(counts, "longest_wait").unwrap_or(0);
+fn fill_numbers(counts: &Value<'_>, report: &mut Report) {
+    report.lines = number_at(counts, "lines").unwrap_or(0);
+    report.foreign = number_at(counts, "foreign").unwrap_or(0);
+    report.lost = number_at(counts, "lost").unwrap_or(0);
+    report.left_out = number_at(counts, "left_out").unwrap_or(0);
+    report.offers_left_out = number_at(counts, "offers_left_out").unwrap_or(0);
+    report.longest_wait = number_at(counts, "longest_wait").unwrap_or(0);
 }
 
-fn fill_report(alloc: Global, state: &Value, report: &mut Report) -> Result<(), AllocError> {
-    let Some(counts) = state.get("counts") else {
+fn fill_report(alloc: Global, state: &Value<'_>, report: &mut Report) -> Result<(), AllocError> {
+    let Some(counts) = member_at(state, "counts") else {
         return Ok(());
     };
     fill_numbers(counts, report);
@@ -76,16 +79,17 @@ fn fill_report(alloc: Global, state: &Value, report: &mut Report) -> Result<(), 
     Ok(())
 }
 
-fn is_drawn(state: &Value) -> bool {
-    match state.get("counts") {
-        Some(counts) => flag_in(counts, "drawn").unwrap_or(false),
+fn is_drawn(state: &Value<'_>) -> bool {
+    match member_at(state, "counts") {
+        Some(counts) => flag_at(counts, "drawn").unwrap_or(false),
         None => false,
     }
 }
 
 // The counts of a state, if they are what it says.
-fn report_of(alloc: Global, state: &Value) -> Result<Option<Report>, AllocError>
-    ensures { IfOk result (λ o. IfSome o (λ report. HasCounts report (view state.now))) }
+fn report_of(alloc: Global, state: &Value<'_>) -> Result<Option<Report>, AllocError>
+    ensures { IfOk result
+        (λ o. IfSome o (λ report. HasCounts report (data_of (value_view state.now)))) }
 {
     let mut report = Report::new(alloc, is_drawn(state))?;
     let filled = fill_report(alloc, state, &mut report);
@@ -98,11 +102,11 @@ fn report_of(alloc: Global, state: &Value) -> Result<Option<Report>, AllocError>
     Ok(None)
 }
 
-fn state_of(alloc: Global, state: &Value) -> Result<Option<ReportState>, AllocError>
+fn state_of(alloc: Global, state: &Value<'_>) -> Result<Option<ReportState>, AllocError>
     ensures counts { IfOk result
-        (λ o. IfSome o (λ s. HasCounts s.report (view state.now))) }
+        (λ o. IfSome o (λ s. HasCounts s.report (data_of (value_view state.now)))) }
     ensures course { IfOk result
-        (λ o. IfSome o (λ s. HasCourse s.course (view state.now))) }
+        (λ o. IfSome o (λ s. HasCourse s.course (data_of (value_view state.now)))) }
     ensures apart { IfOk result (λ o. IfSome o (λ s. AreApart s.places.items)) }
 {
     let Some(places) = places_in(alloc, state)? else {
@@ -133,7 +137,8 @@ pub fn read_state(alloc: Global, bytes: &[u8]) -> Result<Option<ReportState>, Al
         (λ o. IfSome o (λ state. SpellsCourse bytes.now state.course)) }
     ensures apart { IfOk result (λ o. IfSome o (λ state. AreApart state.places.items)) }
 {
-    match read_json(alloc, bytes)? {
+    let mut scratch = Scratch::new(alloc);
+    match read_borrowed(alloc, &mut scratch, bytes)? {
         Some(value) => {
             let state = state_of(alloc, &value);
             drop(value);

@@ -7,8 +7,9 @@ use crate::course::Course;
 use crate::course_text::{course_value, has_course};
 use crate::places::{LogPlace, place_values};
 use crate::spelling::has_counts;
-use json_value::{ObjectBuilder, read_json};
-use report::{QUESTIONS, Report, Tally};
+use json::Scratch;
+use json_value::ObjectBuilder;
+use report::{QUESTIONS, Report, Tally, read_borrowed};
 use serde_json::Value;
 use std::alloc::{AllocError, Global};
 
@@ -98,7 +99,8 @@ fn reads_back(
     ensures course { IfOk result (λ ok. ok ≡ true
         → SpellsCourse text.now (option_map (λ c. c.now) course.entry)) }
 {
-    match read_json(alloc, text.as_bytes())? {
+    let mut scratch = Scratch::new(alloc);
+    match read_borrowed(alloc, &mut scratch, text.as_bytes())? {
         Some(value) => {
             let spelled = has_counts(&value, report) && has_course(&value, course);
             drop(value);
