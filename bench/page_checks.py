@@ -72,11 +72,10 @@ def refusal_of(page):
 
 
 def oversized(page, lines):
-    """A page of three apps has at most 100 KB, and one of 256 apps 2 MB. Each load within sight
-    adds 10 bytes to each strip, so at a report's limits, with 256 of them, it has 4 MB."""
+    """A page of three apps has at most 100 KB, and any other 2 MB: one of 256 apps, too, and one at
+    a report's limits."""
     apps = {app["appid"] for line in lines for app in line.get("apps", [])}
-    loads = [line for line in lines if line["kind"] == "load"]
-    most = 100_000 if len(apps) <= 3 else 2_000_000 if len(loads) < 20 else 4_000_000
+    most = 100_000 if len(apps) <= 3 else 2_000_000
     if (size := len(page.encode())) > most:
         return f"{size} bytes of {len(apps)} apps"
 

@@ -5,17 +5,19 @@ ghost use Rattle.timeline.specs.Bins.{AreBins};
 
 use crate::app_panel::PictureSource;
 use crate::counts::{counts_by_bin, no_counts, raise_by_version};
+use crate::course_marks::CourseLines;
 use crate::marks::Series;
 use crate::page_strip::{caption, class_of, close_strip, open_strip};
 use markup::{Attribute, Class, Document, Tag};
 use std::alloc::{AllocError, Global};
 use std::fmt::Write;
 
-/// Draws the offers of each version, as numbers.
+/// Draws the offers of each version, as numbers; a sentence if there is none.
 pub(crate) fn draw_offers<'a>(
     alloc: Global,
     page: &mut Document,
     source: &PictureSource<'_>,
+    lines: &CourseLines,
     app: &'a str,
     versions: &'a [String],
 ) -> Result<(), AllocError>
@@ -25,18 +27,32 @@ pub(crate) fn draw_offers<'a>(
     let totals = counts_by_bin(alloc, source.rows, drawn, &source.bins)?;
     let totals = totals.as_slice();
     let most = most_of(totals);
+    if most == 0 {
+        caption(page, "No version was offered.");
+        return Ok(());
+    }
     caption(
         page,
         format_args!("Offers of each version, at most {most} in a bin"),
     );
-    draw_strip(alloc, page, source, drawn, versions, totals, Some(most))
+    draw_strip(
+        alloc,
+        page,
+        source,
+        lines,
+        drawn,
+        versions,
+        totals,
+        Some(most),
+    )
 }
 
-/// Draws each version's part of the update checks in each bin.
+/// Draws each version's part of the update checks in each bin; a sentence if there is none.
 pub(crate) fn draw_shares<'a>(
     alloc: Global,
     page: &mut Document,
     source: &PictureSource<'_>,
+    lines: &CourseLines,
     app: &'a str,
     versions: &'a [String],
 ) -> Result<(), AllocError>
@@ -44,16 +60,13 @@ pub(crate) fn draw_shares<'a>(
 {
     let drawn = Series::of_all("asks", app);
     let totals = counts_by_bin(alloc, source.rows, drawn, &source.bins)?;
+    let totals = totals.as_slice();
+    if most_of(totals) == 0 {
+        caption(page, "No client made an update check.");
+        return Ok(());
+    }
     caption(page, "Update checks, the share of each version");
-    draw_strip(
-        alloc,
-        page,
-        source,
-        drawn,
-        versions,
-        totals.as_slice(),
-        None,
-    )
+    draw_strip(alloc, page, source, lines, drawn, versions, totals, None)
 }
 
 fn most_of(numbers: &[u64]) -> u64 {
@@ -66,12 +79,13 @@ fn most_of(numbers: &[u64]) -> u64 {
     most
 }
 
-// A layer for each version, above the layers before it. The height of the strip is `most`, or in
-// each bin its total.
+// A layer for each version, the last one lowest, and one for the others. The height of the strip is
+// `most`, or in each bin its total.
 fn draw_strip<'a>(
     alloc: Global,
     page: &mut Document,
     source: &PictureSource<'_>,
+    lines: &CourseLines,
     drawn: Series<'a>,
     versions: &'a [String],
     totals: &[u64],
@@ -91,7 +105,8 @@ fn draw_strip<'a>(
         most,
         below.as_mut_slice(),
     )?;
-    close_strip(alloc, page, source)
+    close_strip(page, lines);
+    Ok(())
 }
 
 fn draw_layers<'a>(
@@ -107,9 +122,10 @@ fn draw_layers<'a>(
     requires wide { 0 < source.now.bins.width }
     requires all { length below.old ≡ source.now.bins.count }
 {
-    let mut index: usize = 0;
-    for version in versions {
-        draw_layer(alloc, page, class_of(index), totals, below, most)?;
+    let mut opacity = "1";
+    let mut left = versions;
+    while let [older @ .., version] = left {
+        let before = Vec::from_slice(alloc, below)?;
         raise_by_version(
             alloc,
             below,
@@ -118,41 +134,56 @@ fn draw_layers<'a>(
             version.as_str(),
             &source.bins,
         )?;
-        index = index.wrapping_add(1);
+        let bars = bars_of(alloc, before.as_slice(), below, totals, most)?;
+        draw_layer(page, class_of(older.len()), opacity, bars.as_str());
+        opacity = if most.is_none() { "0.3" } else { "1" };
+        left = older;
     }
-    draw_layer(alloc, page, Class::Others, totals, below, most)
-}
-
-fn draw_layer(
-    alloc: Global,
-    page: &mut Document,
-    class: Class,
-    totals: &[u64],
-    below: &[u64],
-    most: Option<u64>,
-) -> Result<(), AllocError> {
-    let mut path = String::new(alloc);
-    for (place, (total, below)) in totals.iter().zip(below.iter()).enumerate() {
-        push_bar(&mut path, place, *total, *below, most.unwrap_or(*total))?;
-    }
-    page.open_as(Tag::Path, class);
-    page.attribute(Attribute::D, path.as_str());
-    page.close();
+    let bars = bars_of(alloc, below, totals, totals, most)?;
+    draw_layer(page, Class::Others, "1", bars.as_str());
     Ok(())
 }
 
-// The bar of a bin, from what is below to the total, of `most`; no bar if nothing is left.
+// A layer, unless it is empty.
+fn draw_layer(page: &mut Document, class: Class, opacity: &str, bars: &str) {
+    if bars.is_empty() {
+        return;
+    }
+    page.open_as(Tag::Path, class);
+    if opacity != "1" {
+        page.attribute(Attribute::FillOpacity, opacity);
+    }
+    page.attribute(Attribute::D, bars);
+    page.close();
+}
+
+// A bar in each bin, from one count to another.
+fn bars_of(
+    alloc: Global,
+    from: &[u64],
+    to: &[u64],
+    totals: &[u64],
+    most: Option<u64>,
+) -> Result<String, AllocError> {
+    let mut path = String::new(alloc);
+    for (place, ((from, to), total)) in from.iter().zip(to.iter()).zip(totals.iter()).enumerate() {
+        push_bar(&mut path, place, *from, *to, most.unwrap_or(*total))?;
+    }
+    Ok(path)
+}
+
+// A bar from one count to another, of `whole`; none if they are the same.
 fn push_bar(
     path: &mut String,
     place: usize,
-    total: u64,
-    below: u64,
-    most: u64,
+    from: u64,
+    to: u64,
+    whole: u64,
 ) -> Result<(), AllocError> {
-    if below >= total || most == 0 {
+    if from >= to || whole == 0 {
         return Ok(());
     }
-    let top = 10000_u128.saturating_sub(total as u128 * 10000 / most as u128);
-    let bottom = 10000_u128.saturating_sub(below as u128 * 10000 / most as u128);
+    let top = 10000_u128.saturating_sub(to as u128 * 10000 / whole as u128);
+    let bottom = 10000_u128.saturating_sub(from as u128 * 10000 / whole as u128);
     write!(path, "M{place} {top}h1V{bottom}h-1z")
 }

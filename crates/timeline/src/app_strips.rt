@@ -8,6 +8,7 @@ use crate::app_layers::{draw_offers, draw_shares};
 use crate::app_panel::PictureSource;
 use crate::bins::Bins;
 use crate::course::{course_of, newest_course_of, source_of};
+use crate::course_marks::{CourseLines, StepMark, draw_marks};
 use crate::page_strip::{caption, class_of, close_strip, open_strip};
 use crate::steps::{Step, areas, edges, share_of, steps_if};
 use crate::strips::steps_of_version;
@@ -18,9 +19,10 @@ use report::Report;
 use std::alloc::{AllocError, Global};
 
 /// Draws the course of an app: for each version the share of its own installs that failed, its
-/// offers, and its share of the update checks. Below is that of the newest minutes, if the first is
-/// by the hour for want of earlier ones. Nothing if no update check has a readable time. Also
-/// returns `AllocError` if a number overflows 64 bits.
+/// offers, and its share of the update checks. Lines mark loads, and these steps, the oldest first.
+/// Below is that of the newest minutes, if the first is by the hour for want of earlier ones.
+/// Nothing if no update check has a readable time. Also returns `AllocError` if a number overflows
+/// 64 bits.
 // open: what is drawn: people look at it.
 pub fn draw_app(
     alloc: Global,
@@ -28,12 +30,13 @@ pub fn draw_app(
     report: &Report,
     times: Times,
     app: &str,
+    steps: &[StepMark<'_>],
 ) -> Result<(), AllocError> {
     if let Some(course) = course_of(report, times) {
-        draw_strips(alloc, page, &source_of(course), app)?;
+        draw_strips(alloc, page, &source_of(course), app, steps)?;
     }
     match newest_course_of(report, times) {
-        Some(course) => draw_strips(alloc, page, &source_of(course), app),
+        Some(course) => draw_strips(alloc, page, &source_of(course), app, steps),
         None => Ok(()),
     }
 }
@@ -43,6 +46,7 @@ fn draw_strips(
     page: &mut Document,
     source: &PictureSource<'_>,
     app: &str,
+    steps: &[StepMark<'_>],
 ) -> Result<(), AllocError>
     requires { AreBins source.now.bins }
 {
@@ -50,9 +54,10 @@ fn draw_strips(
     let versions = versions.as_slice();
     draw_heading(page, &source.bins);
     page.open_as(Tag::Division, Class::Course);
-    draw_failures(alloc, page, source, app, versions)?;
-    draw_offers(alloc, page, source, app, versions)?;
-    draw_shares(alloc, page, source, app, versions)?;
+    let lines = draw_marks(alloc, page, source, steps)?;
+    draw_failures(alloc, page, source, &lines, app, versions)?;
+    draw_offers(alloc, page, source, &lines, app, versions)?;
+    draw_shares(alloc, page, source, &lines, app, versions)?;
     draw_axis(page, &source.bins);
     page.close();
     page.line();
@@ -63,12 +68,16 @@ fn draw_failures(
     alloc: Global,
     page: &mut Document,
     source: &PictureSource<'_>,
+    lines: &CourseLines,
     app: &str,
     versions: &[String],
 ) -> Result<(), AllocError>
     requires { AreBins source.now.bins }
 {
-    let top = scale_of(alloc, source, app, versions)?;
+    let Some(top) = scale_of(alloc, source, app, versions)? else {
+        caption(page, "No client reported an install.");
+        return Ok(());
+    };
     let percent = top / 100;
     caption(
         page,
@@ -82,27 +91,33 @@ fn draw_failures(
         draw_steps(alloc, page, class_of(index), steps.as_slice(), top)?;
         index = index.wrapping_add(1);
     }
-    close_strip(alloc, page, source)
+    close_strip(page, lines);
+    Ok(())
 }
 
-// The height of the strip in hundredths of a percent: 25, 50 or 100 percent.
+// The height of the strip in hundredths of a percent: 25, 50 or 100 percent. `None` if no version
+// has installs.
 fn scale_of(
     alloc: Global,
     source: &PictureSource<'_>,
     app: &str,
     versions: &[String],
-) -> Result<u128, AllocError>
+) -> Result<Option<u128>, AllocError>
     requires { AreBins source.now.bins }
 {
-    let mut most = 0;
+    let mut most = None;
     for version in versions {
         let steps = steps_of_version(alloc, source, app, version.as_str())?;
-        most = highest(steps.as_slice(), most);
+        if !steps.is_empty() {
+            most = Some(highest(steps.as_slice(), most.unwrap_or(0)));
+        }
     }
-    if most <= 2500 {
-        return Ok(2500);
-    }
-    Ok(if most <= 5000 { 5000 } else { 10000 })
+    Ok(match most {
+        Some(most) if most > 5000 => Some(10000),
+        Some(most) if most > 2500 => Some(5000),
+        Some(_) => Some(2500),
+        None => None,
+    })
 }
 
 fn highest(steps: &[Step], least: u128) -> u128 {

@@ -18,6 +18,7 @@ mod axis;
 mod bins;
 mod counts;
 mod course;
+mod course_marks;
 mod layers;
 mod legend;
 mod load_marks;
@@ -33,6 +34,7 @@ mod version_course;
 mod versions;
 
 pub use app_strips::draw_app;
+pub use course_marks::StepMark;
 pub use legend::VersionCounts;
 pub use newest::Outcomes;
 pub use page_strip::class_of;

@@ -60,7 +60,8 @@ pub(crate) fn load_minute(bins: &Bins, name: &str) -> Option<u64>
     }
 }
 
-fn minute_within(bins: &Bins, minute: u64) -> Option<u64>
+/// The same minute, if it is within the bins.
+pub(crate) fn minute_within(bins: &Bins, minute: u64) -> Option<u64>
     ensures { result ≡ specs.minute_within bins.now minute }
 {
     if minute < bins.start || minute - bins.start >= bins.span {

@@ -1,13 +1,11 @@
-//! A strip of a page: its caption, its picture, and the loads in it.
+//! A strip of a page: its caption, its picture, and the lines across it.
 
 ghost use Rattle.std.specs.Prelude.{◌<◌};
 
-use crate::app_panel::PictureSource;
 use crate::bins::Bins;
-use crate::load_marks::load_minute;
+use crate::course_marks::CourseLines;
 use markup::{Attribute, Class, Document, Tag};
-use std::alloc::{AllocError, Global};
-use std::fmt::{Display, Write};
+use std::fmt::Display;
 
 /// The classes of versions, in turn.
 const CLASSES: [Class; 5] = [
@@ -42,29 +40,20 @@ pub(crate) fn open_strip(page: &mut Document, bins: &Bins) {
     page.line();
 }
 
-/// Closes a strip after the loads within its bins.
-pub(crate) fn close_strip(
-    alloc: Global,
-    page: &mut Document,
-    source: &PictureSource<'_>,
-) -> Result<(), AllocError>
-    requires { 0 < source.now.bins.span }
-{
-    let mut path = String::new(alloc);
-    for (name, _count) in source.loads.iter() {
-        if let Some(minute) = load_minute(&source.bins, name.as_str()) {
-            let x = part_of(&source.bins, minute, source.bins.count);
-            write!(path, "M{x} 0V10000")?;
-        }
-    }
-    if !path.is_empty() {
-        page.open_as(Tag::Path, Class::Load);
-        page.attribute(Attribute::D, path.as_str());
-        page.close();
-    }
+/// Closes a strip after the lines of steps and of loads.
+pub(crate) fn close_strip(page: &mut Document, lines: &CourseLines) {
+    draw_lines(page, Class::Axis, lines.steps.as_str());
+    draw_lines(page, Class::Load, lines.loads.as_str());
     page.close();
     page.line();
-    Ok(())
+}
+
+fn draw_lines(page: &mut Document, class: Class, path: &str) {
+    if !path.is_empty() {
+        page.open_as(Tag::Path, class);
+        page.attribute(Attribute::D, path);
+        page.close();
+    }
 }
 
 /// How far a minute is from the first, if all bins together take `whole`.
