@@ -186,8 +186,8 @@ def rows_of(lines):
         for version in sorted((v for a, v in names if a == appid), reverse=True):
             requests, offers, ended, failed = (
                 counts[what, appid, version] for what in ("asks", "offers", "installs", "failed"))
-            rows.append([version, str(requests), share(requests, every[appid]), str(offers),
-                         str(ended), str(failed), share(failed, ended)])
+            rows.append([version, f"{requests:,}", share(asked, every[appid]), f"{offers:,}",
+                         f"{ended:,}", f"{failed:,}", share(failed, ended)])
     return rows
 
 
@@ -198,4 +198,4 @@ def statuses_of(lines):
         for name, count in line.items():
             if name.startswith("status_"):
                 counts[name.removeprefix("status_")] += count
-    return [[status, str(count)] for status, count in counts.items()]
+    return [[status, f"{count:,}"] for status, count in counts.items()]

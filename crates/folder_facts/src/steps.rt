@@ -31,6 +31,48 @@ fn action_text(alloc: Global, action: &StepAction) -> Result<String, AllocError>
     text.finish()
 }
 
+// What a step did to its app, in few words, such as `raise to 5 %`; and that it isn't in force.
+fn label_of(alloc: Global, action: &StepAction, state: &str) -> Result<String, AllocError> {
+    let mut text = TextBuffer::new(alloc);
+    match action {
+        StepAction::Halt { .. } => text.push("halt"),
+        StepAction::HaltRelease { version, .. } => text.push_printed("halt ", version.as_str(), ""),
+        StepAction::Raise { buckets, .. } => push_share(&mut text, *buckets),
+        StepAction::Resume { .. } => text.push("resume"),
+        StepAction::Put { .. } => text.push("put"),
+    }
+    if state != "done" {
+        text.push(", ");
+        text.push(state);
+    }
+    text.finish()
+}
+
+// Adds to which share of all buckets an app is raised.
+fn push_share(text: &mut TextBuffer, buckets: u32) {
+    text.push_number("raise to ", u64::from(buckets / 100), "");
+    let hundredths = buckets % 100;
+    if hundredths > 0 {
+        text.push_number(
+            if hundredths < 10 { ".0" } else { "." },
+            u64::from(hundredths),
+            "",
+        );
+    }
+    text.push(" %");
+}
+
+// The app that a step changed; empty if it put a manifest.
+fn app_of(alloc: Global, action: &StepAction) -> Result<String, AllocError> {
+    match action {
+        StepAction::Halt { appid }
+        | StepAction::HaltRelease { appid, .. }
+        | StepAction::Raise { appid, .. }
+        | StepAction::Resume { appid, .. } => String::from_str(alloc, appid.as_str()),
+        StepAction::Put { .. } => Ok(String::new(alloc)),
+    }
+}
+
 // The same text; empty if there is none.
 fn text_or_empty(alloc: Global, text: &Option<Text>) -> Result<String, AllocError> {
     match text {
@@ -53,6 +95,8 @@ fn taken_step<F: StageFolder>(
         number: u64::from(step.number),
         time: time_of(alloc, step.time)?,
         action: action_text(alloc, &step.action)?,
+        appid: app_of(alloc, &step.action)?,
+        label: label_of(alloc, &step.action, state)?,
         who: text_or_empty(alloc, &step.user)?,
         why: text_or_empty(alloc, &step.because)?,
         state: String::from_str(alloc, state)?,

@@ -1,13 +1,15 @@
 //! The section of an app: its versions with their counts, and its course.
 
-use crate::elements::{close_table, number_cell, open_table, put_as, put_name, remark, share_cell};
+use crate::elements::{
+    close_table, number_cell, open_table, put_as, put_name, put_number, remark, share_cell,
+};
 use crate::findings::AppCourse;
 use crate::folder::FolderFacts;
-use crate::offer_section::draw_offer;
+use crate::offer_section::{draw_halt, draw_offer};
 use crate::source::PageSource;
 use markup::{Class, Document, Tag};
 use std::alloc::{AllocError, Global};
-use timeline::{VersionCourse, class_of, draw_app};
+use timeline::{StepMark, VersionCourse, class_of, draw_app};
 
 /// The heads of the columns of versions.
 const HEADS: [&str; 7] = [
@@ -21,8 +23,8 @@ const HEADS: [&str; 7] = [
 ];
 
 /// What the lines of a course are.
-const LINES: &str =
-    "Dashed lines are loads. The dotted one is 5 %: above it is red, if three or more failed.";
+const LINES: &str = "Solid lines are steps, dashed ones loads. The dotted one is 5 %: above it is \
+    red, if three or more failed.";
 
 /// Draws the section of each app, and of each one that only the folder has.
 pub(crate) fn draw_apps(
@@ -53,15 +55,64 @@ fn draw_section(
 ) -> Result<(), AllocError> {
     page.open(Tag::Section);
     draw_heading(page, app);
-    draw_offer(page, source, app.appid.as_str());
-    draw_versions(page, app);
-    draw_app(alloc, page, source.report, source.times, app.appid.as_str())?;
+    let appid = app.appid.as_str();
+    draw_halt(page, source, appid);
+    draw_beside(page, source, app);
+    let steps = marks_of(alloc, source.facts.folder, appid)?;
+    draw_app(
+        alloc,
+        page,
+        source.report,
+        source.times,
+        appid,
+        steps.as_slice(),
+    )?;
     if !app.versions.is_empty() {
         remark(page, LINES);
     }
     page.close();
     page.line();
     Ok(())
+}
+
+// What an app is offered, and beside it what happened. A division without a class has two columns
+// in a wide window.
+fn draw_beside(page: &mut Document, source: &PageSource<'_>, app: &AppCourse) {
+    if source.offer_to(app.appid.as_str()).is_none() {
+        draw_versions(page, app);
+        return;
+    }
+    page.open(Tag::Division);
+    page.open(Tag::Division);
+    draw_offer(page, source, app.appid.as_str());
+    page.close();
+    page.open(Tag::Division);
+    draw_versions(page, app);
+    page.close();
+    page.close();
+    page.line();
+}
+
+// The steps that changed an app or the manifest, the oldest first.
+fn marks_of<'a>(
+    alloc: Global,
+    folder: Option<&'a FolderFacts>,
+    appid: &str,
+) -> Result<Vec<StepMark<'a>>, AllocError> {
+    let mut marks = Vec::new(alloc);
+    let Some(folder) = folder else {
+        return Ok(marks);
+    };
+    let mut left = folder.steps.as_slice();
+    while let [newer @ .., step] = left {
+        if step.appid.is_empty() || step.appid.as_str() == appid {
+            let time = step.time.as_str();
+            let label = step.label.as_str();
+            marks.push(StepMark { time, label })?;
+        }
+        left = newer;
+    }
+    Ok(marks)
 }
 
 // What the folder offers the apps of which no client makes update checks.
@@ -74,6 +125,7 @@ fn draw_unasked(page: &mut Document, source: &PageSource<'_>, folder: &FolderFac
             put_name(page, appid);
             page.close();
             page.line();
+            draw_halt(page, source, appid);
             draw_offer(page, source, appid);
             remark(page, "No client has made an update check of it.");
             page.close();
@@ -141,7 +193,9 @@ fn draw_version(page: &mut Document, version: &VersionCourse, index: usize, asks
     number_cell(page, counts.offers);
     number_cell(page, counts.installs);
     if version.newest.fails() {
-        put_as(page, Tag::TableCell, Class::Bad, counts.failures);
+        page.open_as(Tag::TableCell, Class::Bad);
+        put_number(page, counts.failures);
+        page.close();
         share_cell(page, Class::Bad, counts.failures, counts.installs);
     } else {
         number_cell(page, counts.failures);

@@ -1,8 +1,20 @@
 //! Elements of a page that have only a text.
 
 use markup::{Class, Document, Tag};
+use moments::second_of_time;
 use printing::Printed;
 use std::fmt::Display;
+
+/// The powers of 1000, the greatest first.
+const UNITS: [u64; 7] = [
+    1_000_000_000_000_000_000,
+    1_000_000_000_000_000,
+    1_000_000_000_000,
+    1_000_000_000,
+    1_000_000,
+    1_000,
+    1,
+];
 
 /// Adds an element with this text.
 pub(crate) fn put<T: Display + Drop>(page: &mut Document, tag: Tag, text: T) {
@@ -21,6 +33,18 @@ pub(crate) fn put_as<T: Display + Drop>(page: &mut Document, tag: Tag, class: Cl
 /// Adds a text that others wrote. Its direction doesn't change that of its surroundings.
 pub(crate) fn put_name(page: &mut Document, name: &str) {
     put_as(page, Tag::Span, Class::Name, Printed(name));
+}
+
+/// Adds a time in UTC by RFC 3339 without its fraction, such as `2026-12-01 10:57:04`. What isn't
+/// one is added as it is.
+pub(crate) fn put_time(page: &mut Document, time: &str) {
+    if time.ends_with('Z') && second_of_time(time).is_some() {
+        page.text(time.get(0..10).unwrap_or(""));
+        page.text(" ");
+        page.text(time.get(11..19).unwrap_or(""));
+    } else {
+        put_name(page, time);
+    }
 }
 
 /// Adds a muted paragraph.
@@ -57,9 +81,25 @@ pub(crate) fn close_table(page: &mut Document) {
     page.line();
 }
 
-/// Adds the cell of a number.
-pub(crate) fn number_cell<T: Display + Drop>(page: &mut Document, n: T) {
-    put_as(page, Tag::TableCell, Class::Number, n);
+/// Adds the cell of a number, such as `34,436`.
+pub(crate) fn number_cell(page: &mut Document, n: u64) {
+    page.open_as(Tag::TableCell, Class::Number);
+    put_number(page, n);
+    page.close();
+}
+
+/// Adds a number, with a comma after its thousands, millions and so on.
+pub(crate) fn put_number(page: &mut Document, n: u64) {
+    let mut has_begun = false;
+    for unit in UNITS {
+        let group = n / unit.max(1) % 1000;
+        if has_begun {
+            page.text(format_args!(",{group:03}"));
+        } else if group > 0 || unit == 1 {
+            page.text(group);
+            has_begun = true;
+        }
+    }
 }
 
 /// Adds the cell of a share, such as `0.78 %`; an empty cell if the whole is 0.

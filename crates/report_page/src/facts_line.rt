@@ -1,6 +1,6 @@
 //! What is known of the page, of the log and of the server: a paragraph.
 
-use crate::elements::{put_as, put_name};
+use crate::elements::{put_as, put_name, put_time};
 use crate::facts::{LogsEnd, PageFacts};
 use crate::log_age::age_of_log;
 use crate::source::PageSource;
@@ -12,7 +12,9 @@ use server_replies::{ServerFacts, ServerReplies, first_after, path_of_load, time
 pub(crate) fn draw_facts(page: &mut Document, source: &PageSource<'_>) {
     page.open_as(Tag::Paragraph, Class::Facts);
     if let Some(time) = source.facts.written {
-        page.text(format_args!("Page written at {time}. "));
+        page.text("Page written at ");
+        put_time(page, time);
+        page.text(" UTC. ");
     }
     draw_end(page, source.facts);
     if let Some(server) = source.facts.server {
@@ -26,7 +28,7 @@ fn draw_end(page: &mut Document, facts: PageFacts<'_>) {
     match facts.end {
         LogsEnd::At(time) => {
             page.text("The log ends at ");
-            put_name(page, time);
+            put_time(page, time);
             if let Some(seconds) = age_of_log(facts) {
                 page.text(format_args!(", {seconds} seconds before the page"));
             }
@@ -56,16 +58,17 @@ fn draw_load(page: &mut Document, state: &[&str]) {
     put_name(page, first_after("generation", state).unwrap_or(""));
     if let Some(loaded) = first_after("loaded", state) {
         page.text(". Its last load was at ");
-        put_name(page, time_of_load(loaded));
+        put_time(page, time_of_load(loaded));
         page.text(" from ");
         put_name(page, path_of_load(loaded));
     }
-    page.text(", with digest ");
+    let digest = first_after("digest", state).unwrap_or("");
+    page.text(", with a digest that begins with ");
     put_as(
         page,
         Tag::Span,
         Class::Name,
-        first_after("digest", state).unwrap_or(""),
+        digest.get(0..8).unwrap_or(digest),
     );
     page.text(". ");
 }

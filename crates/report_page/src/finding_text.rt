@@ -1,6 +1,6 @@
 //! What a finding says, and what to do.
 
-use crate::elements::{put, put_name, put_share, put_wait};
+use crate::elements::{put, put_name, put_share, put_time, put_wait};
 use crate::findings::{Failing, Finding, UsedUp};
 use crate::log_age::LogEnd;
 use crate::offer_section::{put_halt, put_quota};
@@ -49,7 +49,7 @@ fn draw_failing(page: &mut Document, failing: Failing<'_>) {
 fn draw_end(page: &mut Document, end: LogEnd<'_>) {
     let minutes = end.minutes;
     page.text("The log ends at ");
-    put_name(page, end.time);
+    put_time(page, end.time);
     page.text(format_args!(", {minutes} minutes before this page"));
 }
 

@@ -64,6 +64,10 @@ pub struct TakenStep {
     pub time: String,
     /// What it did, in words.
     pub action: String,
+    /// The app whose rule it changed; empty if it put another manifest in place.
+    pub appid: String,
+    /// What it did to it, in few words, such as `raise to 5 %`.
+    pub label: String,
     pub who: String,
     pub why: String,
     /// `done`, `undone` or `stopped`.
@@ -76,6 +80,8 @@ impl Drop for TakenStep {
             number: _number,
             time: _time,
             action: _action,
+            appid: _appid,
+            label: _label,
             who: _who,
             why: _why,
             state: _state,

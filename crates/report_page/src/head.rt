@@ -12,7 +12,7 @@ pub const PAGE_HEAD: &str = r##"<!DOCTYPE html>
 <head>
 <meta charset="utf-8"/>
 <meta http-equiv="Content-Security-Policy"
-  content="default-src 'none'; style-src 'sha256-ilPpUGigKU0GXa0Ky0t82Yoer+psEKCzG2Ygg6zF09g='"/>
+  content="default-src 'none'; style-src 'sha256-NllXiEeJTW/b2YfcVXFI1p676d1rduob5Ae6uTD+Mdw='"/>
 <meta name="viewport" content="width=device-width, initial-scale=1"/>
 <title>rollout report</title>
 <style>
@@ -59,6 +59,8 @@ code{font:13px/1.5 ui-monospace,monospace;background:var(--soft);color:var(--tex
 table{border-collapse:collapse;min-width:min(100%,600px)}
 th,td{text-align:left;padding:5px 14px 5px 0;border-bottom:1px solid var(--line);font-weight:400;
   vertical-align:top}
+td{overflow-wrap:break-word}
+td .name{overflow-wrap:anywhere}
 th{color:var(--muted);font-size:13px;white-space:nowrap}
 th.number,td.number{text-align:right;padding-right:0;padding-left:14px;white-space:nowrap}
 td.bad{text-align:right;font-weight:600;white-space:nowrap;padding-right:0;padding-left:14px}
@@ -72,25 +74,27 @@ span.v0,span.v1,span.v2,span.v3,span.v4,span.v5{display:inline-block;width:10px;
 .v5{--c:var(--v5)}
 path{fill:var(--c)}
 path.bad{fill:var(--bad);fill-opacity:1}
-.course svg:nth-of-type(3) path:not(.load,.v0,:has(+.v0)){
-  fill:color-mix(in srgb,var(--c) 30%,var(--back))}
 .strip{display:block;width:100%;height:56px;border-bottom:1px solid var(--muted);
   shape-rendering:crispEdges}
-.limit,.load{fill:none;vector-effect:non-scaling-stroke}
+.limit,.load,path.axis{fill:none;vector-effect:non-scaling-stroke}
 .limit{stroke:var(--bad);stroke-dasharray:2 3}
-.load{stroke:var(--text);stroke-dasharray:5 3}
+.load,path.axis{stroke:var(--text)}
+.load{stroke-dasharray:5 3}
 .axis{display:block;width:100%;height:20px;overflow:visible}
 td .axis{width:160px;height:10px;margin:6px 0 0 auto}
-.axis text{font-size:12px;fill:var(--muted);text-anchor:middle}
+.axis text{font-size:12px;fill:var(--muted)}
+.axis text:not([text-anchor]){text-anchor:middle}
 .course{padding-right:20px}
 summary{cursor:pointer;font-weight:600}
 pre{font:13px/1.5 ui-monospace,monospace;white-space:pre-wrap}
+@media(min-width:1040px){section>div:not([class]){display:grid;gap:0 40px;
+  grid-template-columns:1fr 1fr}section>div>div{min-width:0}section>div>div>h3{margin-top:5px}}
 @media(max-width:720px){body{font-size:14px}table,th{font-size:13px}section,.band,.findings,
   p.facts{padding-left:16px;padding-right:16px}th,td{padding-right:4px}th.number,td.number,td.bad{
   padding-left:4px}}
 @media(max-width:480px){th:nth-child(2):nth-last-child(6),td:nth-child(2):nth-last-child(6){
   display:none}}
-@media print{*{print-color-adjust:exact}.name,code{max-height:none}
+@media print{*{print-color-adjust:exact}.name,code{max-height:none}td{overflow-wrap:anywhere}
   .course,tr{break-inside:avoid}h2,h3{break-after:avoid}}
 </style>
 </head>

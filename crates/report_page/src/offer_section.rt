@@ -6,14 +6,18 @@ use crate::source::PageSource;
 use markup::{Attribute, Class, Document, Tag};
 use printing::Printed;
 
-/// Draws what an app is offered, if the folder has the app, and that the server halts it.
-pub(crate) fn draw_offer(page: &mut Document, source: &PageSource<'_>, appid: &str) {
+/// Draws that the server halts an app, if it does.
+pub(crate) fn draw_halt(page: &mut Document, source: &PageSource<'_>, appid: &str) {
     if source.is_halted(appid) {
         page.open_as(Tag::Paragraph, Class::Muted);
         put_halt(page, source);
         page.close();
         page.line();
     }
+}
+
+/// Draws what an app is offered, if the folder has the app.
+pub(crate) fn draw_offer(page: &mut Document, source: &PageSource<'_>, appid: &str) {
     if let Some(offered) = source.offer_to(appid) {
         put(
             page,

@@ -1,6 +1,6 @@
 //! The sections of loads and of requests, and the whole report.
 
-use crate::elements::{close_table, number_cell, open_table, put, put_wait, remark};
+use crate::elements::{close_table, number_cell, open_table, put, put_time, put_wait, remark};
 use markup::{Class, Document, Tag};
 use report::{LineQuestion, Question, Report, report_text};
 use std::alloc::{AllocError, Global};
@@ -18,12 +18,31 @@ pub(crate) fn draw_loads(page: &mut Document, report: &Report) {
                 &["Time, in UTC", "Generation", "Manifest", "Number"],
                 3,
             );
-            draw_rows(page, loads.rows());
+            for (name, n) in loads.rows().iter() {
+                draw_load(page, name.as_str(), *n);
+            }
             close_table(page);
             draw_others(page, loads.others());
         }
         _ => remark(page, "The log has no load."),
     }
+    page.close();
+    page.line();
+}
+
+// A load: its time, and then as it is.
+fn draw_load(page: &mut Document, name: &str, n: u64) {
+    page.open(Tag::TableRow);
+    for (place, text) in name.split('\t').enumerate() {
+        page.open(Tag::TableCell);
+        if place == 0 {
+            put_time(page, text);
+        } else {
+            page.text(text);
+        }
+        page.close();
+    }
+    number_cell(page, n);
     page.close();
     page.line();
 }
@@ -79,7 +98,11 @@ fn draw_responses(page: &mut Document, report: &Report) {
     }
 }
 
+// A row; none for 0.
 fn draw_number(page: &mut Document, what: &str, n: u64) {
+    if n == 0 {
+        return;
+    }
     page.open(Tag::TableRow);
     put(page, Tag::TableCell, what);
     number_cell(page, n);

@@ -1,6 +1,6 @@
 //! The section of steps: what was done with a folder's files, when and by whom.
 
-use crate::elements::{close_table, open_table, put, remark};
+use crate::elements::{close_table, open_table, put, put_time, remark};
 use crate::folder::{FolderFacts, TakenStep};
 use markup::{Document, Tag};
 use printing::Printed;
@@ -45,7 +45,9 @@ fn draw_table(page: &mut Document, steps: &[TakenStep]) {
 fn draw_step(page: &mut Document, step: &TakenStep) {
     page.open(Tag::TableRow);
     put(page, Tag::TableCell, step.number);
-    draw_text(page, step.time.as_str());
+    page.open(Tag::TableCell);
+    put_time(page, step.time.as_str());
+    page.close();
     draw_text(page, step.action.as_str());
     draw_text(page, step.who.as_str());
     draw_text(page, step.why.as_str());
