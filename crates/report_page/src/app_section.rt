@@ -23,8 +23,9 @@ const HEADS: [&str; 7] = [
 ];
 
 /// What the lines of a course are.
-const LINES: &str = "Solid lines are steps, dashed ones loads. The dotted one is 5 %: above it is \
-    red, if three or more failed.";
+const LINES: &str =
+    "Solid lines are steps, dashed ones loads. The dotted one is at 5 % failed: above \
+    it is red, if three or more did.";
 
 /// Draws the section of each app, and of each one that only the folder has.
 pub(crate) fn draw_apps(

@@ -105,7 +105,7 @@ fn draw_halt(page: &mut Document, source: &PageSource<'_>, appid: &str) {
         put_halt(page, source);
         return;
     }
-    page.text("To offer it no longer: ");
+    page.text("To offer it no longer, on the server's host: ");
     put_command(page, source, "rollout stage halt", appid);
 }
 
