@@ -58,7 +58,7 @@ fn draw_section(
     draw_heading(page, app);
     let appid = app.appid.as_str();
     draw_halt(page, source, appid);
-    draw_beside(page, source, app);
+    draw_both(page, source, app);
     let steps = marks_of(alloc, source.facts.folder, appid)?;
     draw_app(
         alloc,
@@ -76,9 +76,9 @@ fn draw_section(
     Ok(())
 }
 
-// What an app is offered, and beside it what happened. A division without a class has two columns
+// What an app is offered, and next to it what happened. A division without a class has two columns
 // in a wide window.
-fn draw_beside(page: &mut Document, source: &PageSource<'_>, app: &AppCourse) {
+fn draw_both(page: &mut Document, source: &PageSource<'_>, app: &AppCourse) {
     if source.offer_to(app.appid.as_str()).is_none() {
         draw_versions(page, app);
         return;

@@ -30,7 +30,7 @@ pub struct StepMark<'a> {
     pub label: &'a str,
 }
 
-// A line where a bin begins. Its label is the last load's or step's in the bin.
+// A line at the left edge of a bin. Its label is the last load's or step's in the bin.
 #[derive(Clone, Copy)]
 struct Mark<'a> {
     place: u128,
@@ -144,7 +144,7 @@ fn draw_left_out(page: &mut Document, lines: usize, what: &str) {
     }
 }
 
-// The labels, the newest first; none where it would cover a newer one.
+// The labels, the newest first; none that would cover a newer one.
 fn draw_labels(page: &mut Document, bins: &Bins, marks: &[Mark<'_>]) {
     if marks.is_empty() {
         return;
@@ -163,7 +163,7 @@ fn draw_labels(page: &mut Document, bins: &Bins, marks: &[Mark<'_>]) {
 }
 
 // Draws a label at the right of its line, or at its left for want of room there, if it ends at
-// `free` at most. Returns where it begins, or else `free`.
+// `free` at most. Returns its left edge, or else `free`.
 fn draw_label(page: &mut Document, bins: &Bins, mark: Mark<'_>, free: u128) -> u128 {
     let letters = mark.word.len().saturating_add(mark.label.len());
     let x = mark.place.saturating_mul(1000) / bins.count.max(1) as u128;
