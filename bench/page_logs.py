@@ -186,7 +186,7 @@ def rows_of(lines):
         for version in sorted((v for a, v in names if a == appid), reverse=True):
             requests, offers, ended, failed = (
                 counts[what, appid, version] for what in ("asks", "offers", "installs", "failed"))
-            rows.append([version, f"{requests:,}", share(asked, every[appid]), f"{offers:,}",
+            rows.append([version, f"{requests:,}", share(requests, every[appid]), f"{offers:,}",
                          f"{ended:,}", f"{failed:,}", share(failed, ended)])
     return rows
 
