@@ -63,13 +63,13 @@ fn push_share(text: &mut TextBuffer, buckets: u32) {
 }
 
 // The app that a step changed; empty if it put a manifest.
-fn app_of(alloc: Global, action: &StepAction) -> Result<String, AllocError> {
+fn appid_of(action: &StepAction) -> &str {
     match action {
-        StepAction::Halt { appid }
-        | StepAction::HaltRelease { appid, .. }
-        | StepAction::Raise { appid, .. }
-        | StepAction::Resume { appid, .. } => String::from_str(alloc, appid.as_str()),
-        StepAction::Put { .. } => Ok(String::new(alloc)),
+        StepAction::Halt { appid } => appid.as_str(),
+        StepAction::HaltRelease { appid, .. } => appid.as_str(),
+        StepAction::Raise { appid, .. } => appid.as_str(),
+        StepAction::Resume { appid, .. } => appid.as_str(),
+        StepAction::Put { .. } => "",
     }
 }
 
@@ -95,7 +95,7 @@ fn taken_step<F: StageFolder>(
         number: u64::from(step.number),
         time: time_of(alloc, step.time)?,
         action: action_text(alloc, &step.action)?,
-        appid: app_of(alloc, &step.action)?,
+        appid: String::from_str(alloc, appid_of(&step.action))?,
         label: label_of(alloc, &step.action, state)?,
         who: text_or_empty(alloc, &step.user)?,
         why: text_or_empty(alloc, &step.because)?,

@@ -33,14 +33,16 @@ pub(crate) fn draw_loads(page: &mut Document, report: &Report) {
 // A load: its time, and then as it is.
 fn draw_load(page: &mut Document, name: &str, n: u64) {
     page.open(Tag::TableRow);
-    for (place, text) in name.split('\t').enumerate() {
+    let mut is_time = true;
+    for text in name.split('\t') {
         page.open(Tag::TableCell);
-        if place == 0 {
+        if is_time {
             put_time(page, text);
         } else {
             page.text(text);
         }
         page.close();
+        is_time = false;
     }
     number_cell(page, n);
     page.close();
