@@ -83,7 +83,7 @@ class Server:
         self.process.stdout.close()
         self.errors.close()
 
-    def said(self):
+    def printed(self):
         """What it has written to standard error so far."""
         self.errors.seek(0)
         return self.errors.read().decode()

@@ -153,10 +153,10 @@ class Machine:
         second = 1167609600 + 86400 * self.day
         cells = [f"--cells=q[{at}]={it}" for at, it in enumerate(self.taken)]
         words = ["ask", f"{name}.toml", "request.json", "--at", str(second), *cells]
-        status, said, why = tools(folder, *words)
+        status, printed, why = tools(folder, *words)
         if status != 0:
             raise ValueError(why)
-        offered = re.search(r'"version":"([^"]+)"', said)
+        offered = re.search(r'"version":"([^"]+)"', printed)
         return offered and offered[1]
 
 
@@ -202,10 +202,10 @@ def wrong_pair(folder, draw, machines, old, new):
     """A row that isn't so, or a machine in no row that gets something else."""
     write(folder, "old", rule(old))
     write(folder, "new", rule(new))
-    status, said, why = tools(folder, "diff", "old.toml", "new.toml", "--json")
+    status, printed, why = tools(folder, "diff", "old.toml", "new.toml", "--json")
     if status != 0:
         return why
-    apps = json.loads(said)["apps"]
+    apps = json.loads(printed)["apps"]
     rows = [(it, holds(it["when"])) for it in (apps[0]["rows"] if apps else [])]
     for row, has in rows:
         machine = next((it for it in machines if has(it)), None)
@@ -269,9 +269,9 @@ def harms(folder):
     day = Day(folder / "pipeline", BUILT)
     day.run('git init -q -b main served; git init -q .; git remote add origin "file://$PWD/served"')
     for title, *change, wanted, status in HARMS:
-        said = piped(day, *change)
-        if wanted not in said or ("\n1 " in said) != (status == 1):
-            return f"{title}: {said}"
+        printed = piped(day, *change)
+        if wanted not in printed or ("\n1 " in printed) != (status == 1):
+            return f"{title}: {printed}"
 
 
 COMPARISONS = {

@@ -88,12 +88,12 @@ def broken_and_mended(rig, breaks):
     with opened(rig.server()) as server:
         longest = max(withheld_while(rig, server, breaks(rig.place)) for _ in range(2))
         rig.stopped(server)
-        lines = re.findall(r'"kind":"counters"(.*)', server.said())
+        lines = re.findall(r'"kind":"counters"(.*)', server.printed())
     if ['"refusal":"K4 Store"' in it for it in lines] != [True, False] * 2:
         raise Wrong(f"the log has {lines}")
     rig.exact()
-    said = f"{rig.tally.offers} offers, {rig.tally.withheld} replies by 503, others within "
-    return f"{said}{longest:.2f} s"
+    summary = f"{rig.tally.offers} offers, {rig.tally.withheld} replies by 503, others within "
+    return f"{summary}{longest:.2f} s"
 
 
 def ends_broken(rig, breaks):
@@ -104,8 +104,8 @@ def ends_broken(rig, breaks):
         with breaks(rig.place):
             before = rig.file.read_bytes()
             rig.stopped(server, 1)
-            if "refused K4 Store" not in server.said():
-                raise Wrong(f"a stop: {server.said()}")
+            if "refused K4 Store" not in server.printed():
+                raise Wrong(f"a stop: {server.printed()}")
             rig.refused("K4 Store")
             if rig.file.read_bytes() != before or rig.number() < rig.tally.offers:
                 raise Wrong(f"a stop leaves {rig.number()}, after {rig.tally.offers} offers")
@@ -114,9 +114,9 @@ def ends_broken(rig, breaks):
 def full_disk(program, folder):
     with tmpfs(folder / "disk") as place:
         rig = Rig(program, folder, QUOTA, place)
-        said = broken_and_mended(rig, filled)
+        summary = broken_and_mended(rig, filled)
         ends_broken(rig, filled)
-        return said
+        return summary
 
 
 def used_up(program, folder):
@@ -149,17 +149,17 @@ def rig_in_folder(program, folder):
 
 def read_only_folder(program, folder):
     rig = rig_in_folder(program, folder)
-    said = broken_and_mended(rig, read_only)
+    summary = broken_and_mended(rig, read_only)
     ends_broken(rig, read_only)
-    return said
+    return summary
 
 
 def folder_gone(program, folder):
     rig = rig_in_folder(program, folder)
-    said = broken_and_mended(rig, gone)
+    summary = broken_and_mended(rig, gone)
     shutil.rmtree(folder / "place")
     rig.refused("K4 Store")
-    return said
+    return summary
 
 
 @contextlib.contextmanager
@@ -184,7 +184,7 @@ def stopped_while(rig, server, frozen):
         if server.process.poll() is not None:
             raise Wrong("a server has ended without its file")
     if server.ends() != 0:
-        raise Wrong(f"a stop ends with {server.process.returncode}: {server.said()}")
+        raise Wrong(f"a stop ends with {server.process.returncode}: {server.printed()}")
 
 
 def hangs(program, folder):
@@ -209,8 +209,8 @@ def hangs(program, folder):
         rig.exact()
     if not all(WAITS[0] <= it <= WAITS[1] for it in waits):
         raise Wrong(f"replies waited {waits}")
-    said = f"{rig.tally.offers} offers, {rig.tally.withheld} replies by 503, the first of each"
-    return f"{said} time after {max(waits):.1f} s, others within {longest:.2f} s"
+    summary = f"{rig.tally.offers} offers, {rig.tally.withheld} replies by 503, the first of each"
+    return f"{summary} time after {max(waits):.1f} s, others within {longest:.2f} s"
 
 
 def hangs_briefly_limited(program, folder):

@@ -81,7 +81,7 @@ class Rig:
     def stopped(self, server, status=0):
         server.ask("stop")
         if server.ends() != status:
-            raise Wrong(f"a stop ends with {server.process.returncode}: {server.said()}")
+            raise Wrong(f"a stop ends with {server.process.returncode}: {server.printed()}")
 
     def killed(self, server):
         server.process.kill()
@@ -99,7 +99,7 @@ def opened(server):
     with server as it:
         if it.first != "serving generation 1\n":
             it.process.wait(PATIENCE)
-            raise Wrong(f"it doesn't serve: {it.said()}")
+            raise Wrong(f"it doesn't serve: {it.printed()}")
         yield it
 
 

@@ -122,9 +122,9 @@ def wrong_buckets(fleet, servers):
         return f"without the second server: {left}"
 
 
-def wrong_loads(fleet, said):
+def wrong_loads(fleet, printed):
     """A load on each host by the page's loop."""
-    if (found := fleet.run("a", fleet.loading)) != said:
+    if (found := fleet.run("a", fleet.loading)) != printed:
         return f"the loop: {found}"
 
 

@@ -149,9 +149,9 @@ def tries_again(cron):
     (cron.folder / "status").write_text("0\n")
     (cron.folder / "halted").write_text("")
     cron.page.write_text(fails)
-    status, calls, said = cron.call(kept="none/kept")
-    if status or not calls or "can't be written" not in said:
-        return f"without a file: {status} {calls} {said}"
+    status, calls, printed = cron.call(kept="none/kept")
+    if status or not calls or "can't be written" not in printed:
+        return f"without a file: {status} {calls} {printed}"
 
 
 def halting(folder):

@@ -123,22 +123,22 @@ def wrong_stages(day):
     raising, moves, _ = section("OPERATING.md", "Raising a stage")
     halting, *_ = section("OPERATING.md", "Halting a release")
     comparing, ask, buckets, _ = section("OPERATING.md", "What is being served")
-    if NOTHING not in (said := day.run(ask)):
-        return f"before: {said}"
+    if NOTHING not in (printed := day.run(ask)):
+        return f"before: {printed}"
     if day.run(raising) != moves + REPLACED.format(2):
         return f"raising: {day.run(raising)}"
     if wrong := wrong_digests(day, comparing):
         return wrong
-    if OFFERED not in (said := day.run(ask)):
-        return f"after it: {said}"
-    if (said := day.run(buckets)).splitlines()[1:5] != ["0", "1", "2", "6"]:
-        return f"buckets: {said}"
-    if (said := day.run(halting)) != HALTED + REPLACED.format("4, halted: editor"):
-        return f"halting: {said}"
-    if NOTHING not in (said := day.run(ask)):
-        return f"after a halt: {said}"
-    if "< 2500 offer 1;" not in (said := day.run(f"{before_halt()} && cat $then/editor.rule")):
-        return f"before the halt: {said}"
+    if OFFERED not in (printed := day.run(ask)):
+        return f"after it: {printed}"
+    if (printed := day.run(buckets)).splitlines()[1:5] != ["0", "1", "2", "6"]:
+        return f"buckets: {printed}"
+    if (printed := day.run(halting)) != HALTED + REPLACED.format("4, halted: editor"):
+        return f"halting: {printed}"
+    if NOTHING not in (printed := day.run(ask)):
+        return f"after a halt: {printed}"
+    if "< 2500 offer 1;" not in (printed := day.run(f"{before_halt()} && cat $then/editor.rule")):
+        return f"before the halt: {printed}"
     return wrong_status(day)
 
 
@@ -160,10 +160,10 @@ def wrong_events(day):
     answer = '{"app":[{"appid":"editor","cohort":"b:9449","status":"ok"}],'
     long = report.replace('"eventtype"', f'"text":"{"x" * 600}","eventtype"')
     for body in (report, report.replace('"eventresult":1', '"eventresult":0'), long):
-        if answer not in (said := day.run(POSTED, body)):
-            return said
-    if NOTHING not in (said := day.run(POSTED, check.replace('"cohort":"b:9449",', ""))):
-        return said
+        if answer not in (printed := day.run(POSTED, body)):
+            return printed
+    if NOTHING not in (printed := day.run(POSTED, check.replace('"cohort":"b:9449",', ""))):
+        return printed
 
 
 def wrong_counts(day):
@@ -196,10 +196,11 @@ def wrong_report(day):
     day.run("head -n 3 server.log > part.log && printf '{' >> part.log")
     day.run("rollout report part.log --state now.state && cp server.log part.log")
     for _ in range(2):
-        if (said := day.run("rollout report part.log --state now.state")) != whole:
-            return f"report --state: {said}"
-    if said := day.run("rollout report server.log --since 2007-01-01T00:00:00Z --until 1d"):
-        return None if said.startswith("lines\n0\tcounted\n") else f"report --until 1d: {said}"
+        if (printed := day.run("rollout report part.log --state now.state")) != whole:
+            return f"report --state: {printed}"
+    if printed := day.run("rollout report server.log --since 2007-01-01T00:00:00Z --until 1d"):
+        is_empty = printed.startswith("lines\n0\tcounted\n")
+        return None if is_empty else f"report --until 1d: {printed}"
 
 
 def day_of_the_page(folder, program=BUILT):
@@ -212,8 +213,8 @@ def day_of_the_page(folder, program=BUILT):
     if wrong := wrong_counts(day) or wrong_report(day):
         return wrong
     with day.served():
-        if NOTHING not in (said := day.run(asking())):
-            return f"after a restart: {said}"
+        if NOTHING not in (printed := day.run(asking())):
+            return f"after a restart: {printed}"
 
 
 def few_descriptors(folder, program=BUILT):
@@ -222,8 +223,8 @@ def few_descriptors(folder, program=BUILT):
     day = Day(folder / "few", program)
     start = f"ulimit -n {{}}; exec {program} serve current.toml {SERVING.removesuffix(' --log')}"
     for count in range(4, LEAST):
-        if (said := day.run(start.format(count))) != "1 refused B6 Bind\n":
-            return f"with {count}: {said!r}"
+        if (printed := day.run(start.format(count))) != "1 refused B6 Bind\n":
+            return f"with {count}: {printed!r}"
     how = {"stdout": subprocess.PIPE, "text": True, **day.place()}
     with subprocess.Popen(day.words(start.format(LEAST)), **how) as server:
         try:
@@ -234,8 +235,8 @@ def few_descriptors(folder, program=BUILT):
 
 def wrong_with_few(day, server):
     """A server with the fewest file descriptors that it needs."""
-    if (said := server.stdout.readline()) != "serving generation 1\n":
-        return f"with {LEAST}: {said!r}"
+    if (printed := server.stdout.readline()) != "serving generation 1\n":
+        return f"with {LEAST}: {printed!r}"
     ask = asking()
     for command, wanted in (
         (ask, NOTHING),
@@ -243,8 +244,8 @@ def wrong_with_few(day, server):
         (ask, NOTHING),
         ("rollout stop --operator 8081 --wait", "stopping\n"),
     ):
-        if wanted not in (said := day.run(command)):
-            return f"with {LEAST}: {said!r} of {command}"
+        if wanted not in (printed := day.run(command)):
+            return f"with {LEAST}: {printed!r} of {command}"
     if server.wait(PATIENCE) != 0:
         return f"with {LEAST}: status {server.returncode}"
 

@@ -95,30 +95,30 @@ def wrong_without_room(shell, title, blocks):
     for it in blocks:
         if re.search(r"stage (halt|raise) ", it) and "mktemp" not in it:
             continue
-        said = shell.paste([it], TMPDIR=str(shell.day.folder / "none"))
+        printed = shell.paste([it], TMPDIR=str(shell.day.folder / "none"))
         if shell.served() != shell.first:
-            return f"{title}: without a new folder this changes what is served: {it}{said}"
+            return f"{title}: without a new folder this changes what is served: {it}{printed}"
 
 
 def wrong_twice(shell, title, blocks):
     shell.commands(0)
-    said = shell.paste([*blocks, *blocks])
+    printed = shell.paste([*blocks, *blocks])
     if shell.served() == shell.first:
         return
     status = shell.day.run("rollout stage status --operator 8081 || :")
     if "step" not in status or EDITED.search(status):
-        return f"{title}: after it {status} {said}"
+        return f"{title}: after it {status} {printed}"
 
 
 def wrong_put(shell, title, block):
     """What a block makes of the served files can be put in place, with the app that it leaves."""
     if "stage put" not in block:
         block = f"{block.rstrip()} && rollout stage put current.toml --anyway --operator 8081"
-    said = shell.day.run(block.replace(" --dry-run", ""))
+    printed = shell.day.run(block.replace(" --dry-run", ""))
     manifest, _, viewer = shell.served()
     kept = manifest.endswith(VIEWER) and QUOTA.format("other") in manifest and viewer == NONE
-    if not kept or not said.endswith(f"server at {PORTS['8081']}: generation 2\n"):
-        return f"{title}: put: {said}{manifest}"
+    if not kept or not printed.endswith(f"server at {PORTS['8081']}: generation 2\n"):
+        return f"{title}: put: {printed}{manifest}"
 
 
 def pasted(folder, program=BUILT, only=""):

@@ -61,14 +61,14 @@ def wrong_shares(day):
     if in_pod(day, 1, 2, "first", "first") != (0, "") or share(day, 0, 1) != QUOTAS[-1]:
         return "a pod with a manifest begins anew"
     (day.folder / "current.toml").unlink()
-    status, said = in_pod(day, 2, 2, "first", "first")
-    if (status, "has no share" in said) != (1, True) or (day.folder / "current.toml").exists():
-        return f"a third pod of two: {said!r}, status {status}"
+    status, printed = in_pod(day, 2, 2, "first", "first")
+    if (status, "has no share" in printed) != (1, True) or (day.folder / "current.toml").exists():
+        return f"a third pod of two: {printed!r}, status {status}"
     for it in ODD:
         (first / "current.toml").write_text(re.sub("quota = .*", it, whole))
-        status, said = in_pod(day, 0, 2, "first", "first")
-        if status != 1 or it not in said or (day.folder / "current.toml").exists():
-            return f"{it}: {status} {said}"
+        status, printed = in_pod(day, 0, 2, "first", "first")
+        if status != 1 or it not in printed or (day.folder / "current.toml").exists():
+            return f"{it}: {status} {printed}"
     (day.folder / "current.toml").write_text(manifest)
 
 
@@ -85,20 +85,20 @@ def wrong_put(day):
         return in_pod(day, 0, 2, "put", *options, given=packed.getvalue())
 
     with day.served():
-        status, said = put()
-        if status or not said.endswith(f"server at {PORTS['8081']}: generation 2\n"):
-            return f"put: {status} {said}"
+        status, printed = put()
+        if status or not printed.endswith(f"server at {PORTS['8081']}: generation 2\n"):
+            return f"put: {status} {printed}"
         day.run("rollout halt editor --operator 8081")
-        if not (said := day.run("rollout stage halt editor --operator 8081")).endswith(HALTED):
-            return f"halt: {said}"
-        status, said = put()
-        if (status, "this lifts the halt of editor" in said) != (1, True):
-            return f"put over a halt: {status} {said}"
-        status, said = put("--anyway")
-        if status or ", editor is offered again\n" not in said:
-            return f"put --anyway: {status} {said}"
-        if OFFERED not in (said := day.run(asking())):
-            return f"after put --anyway: {said}"
+        if not (printed := day.run("rollout stage halt editor --operator 8081")).endswith(HALTED):
+            return f"halt: {printed}"
+        status, printed = put()
+        if (status, "this lifts the halt of editor" in printed) != (1, True):
+            return f"put over a halt: {status} {printed}"
+        status, printed = put("--anyway")
+        if status or ", editor is offered again\n" not in printed:
+            return f"put --anyway: {status} {printed}"
+        if OFFERED not in (printed := day.run(asking())):
+            return f"after put --anyway: {printed}"
     if (day.folder / "editor.rule").read_text() != rule:
         return "put: the rule isn't in place"
 
@@ -111,17 +111,17 @@ def wrong_new_pod(day):
     made.mkdir()
     for name in ("current.toml", "editor.rule"):
         shutil.copy(day.folder / name, halted)
-    said = day.run(f"rollout stage halt editor --folder {halted} --no-load")
-    if "replaced editor.rule\n" not in said:
-        return f"a halt of the files: {said}"
+    printed = day.run(f"rollout stage halt editor --folder {halted} --no-load")
+    if "replaced editor.rule\n" not in printed:
+        return f"a halt of the files: {printed}"
     for name in ("current.toml", "editor.rule"):
         shutil.copy(halted / name, made)
     (day.folder / "current.toml").unlink()
     if (found := in_pod(day, 0, 2, "first", "made")) != (0, ""):
         return f"a new pod: {found}"
     with day.served():
-        if NOTHING not in (said := day.run(asking())):
-            return f"a new pod after a halt: {said}"
+        if NOTHING not in (printed := day.run(asking())):
+            return f"a new pod after a halt: {printed}"
 
 
 def wrong_settings():

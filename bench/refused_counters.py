@@ -41,10 +41,10 @@ class KeptServers(Servers):
         self.file.unlink(missing_ok=True)
         with self.server() as server:
             if server.first == "":
-                status, said = server.ends(), server.said()
-                refused = REFUSED.fullmatch(said)
+                status, printed = server.ends(), server.printed()
+                refused = REFUSED.fullmatch(printed)
                 if status != 1 or not refused:
-                    raise Wrong(f"status {status}, {said!r}")
+                    raise Wrong(f"status {status}, {printed!r}")
                 answer = refused[1]
             else:
                 # Allocations that follow its line `serving`.
@@ -81,7 +81,7 @@ class KeptServers(Servers):
                 raise Wrong(f"again: {answer}")
             time.sleep(0.05)
         if server.ask("stop") != "stopping\n" or server.ends() != 0:
-            raise Wrong(f"it doesn't stop: {server.said()!r}")
+            raise Wrong(f"it doesn't stop: {server.printed()!r}")
 
     def judged(self, reply, offers):
         """How a request is answered; its offer, the one with this number, is in the file."""
@@ -107,18 +107,18 @@ class KeptServers(Servers):
                 if not serves(server):
                     raise Wrong(f"{reply!r}, and it doesn't serve on")
                 return reply.removeprefix("refused ").strip()
-            status, said = server.ends(), server.said()
+            status, printed = server.ends(), server.printed()
         if not self.refusal.is_reached():
             return None
-        refused = REFUSED.fullmatch(said)
-        if (status, said) != (0, "") and (status != 1 or not refused):
-            raise Wrong(f"status {status}, {said!r}")
+        refused = REFUSED.fullmatch(printed)
+        if (status, printed) != (0, "") and (status != 1 or not refused):
+            raise Wrong(f"status {status}, {printed!r}")
         least = self.number()
         if least < 1 or (status == 0 and least != 1):
             raise Wrong(f"the file has {least}")
         with self.server() as server:
             if not serves(server):
-                raise Wrong(f"again: {server.first!r}, {server.said()!r}")
+                raise Wrong(f"again: {server.first!r}, {server.printed()!r}")
         return refused[1] if refused else "done all the same"
 
 

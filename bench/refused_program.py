@@ -119,13 +119,13 @@ def by_manifest(text):
 def is_refused_check(found, untroubled):
     """Whether one of several manifests ran out of memory, and the output for the others is as
     usual."""
-    said, errors = by_manifest(found[1]), by_manifest(found[2])
+    printed, errors = by_manifest(found[1]), by_manifest(found[2])
     wanted, warned = by_manifest(untroubled[1]), by_manifest(untroubled[2])
     refused = [name for name in wanted if LINE.fullmatch(errors.get(name, ""))]
-    if found[0] != 1 or len(refused) != 1 or refused[0] in said:
+    if found[0] != 1 or len(refused) != 1 or refused[0] in printed:
         return False
     others = [name for name in wanted if name not in refused]
-    return all((said[it], errors.get(it)) == (wanted[it], warned.get(it)) for it in others)
+    return all((printed[it], errors.get(it)) == (wanted[it], warned.get(it)) for it in others)
 
 
 # A status of a folder whose steps can't be read.
@@ -247,10 +247,10 @@ class Servers:
         self.refusal.ask(call)
         with self.server() as server:
             if server.first == "":
-                status, said = server.ends(), server.said()
-                if status != 1 or not LINE.fullmatch(said):
-                    raise Wrong(f"status {status}, {said!r}")
-                answer = LINE.fullmatch(said)[1]
+                status, printed = server.ends(), server.printed()
+                if status != 1 or not LINE.fullmatch(printed):
+                    raise Wrong(f"status {status}, {printed!r}")
+                answer = LINE.fullmatch(printed)[1]
             else:
                 # Allocations that follow its line `serving`.
                 time.sleep(0.05)
@@ -258,10 +258,10 @@ class Servers:
             if not self.refusal.is_reached():
                 return None
             if server.first != "" and not serves(server):
-                raise Wrong(f"it says {server.first!r}, and then {server.said()!r}")
+                raise Wrong(f"it says {server.first!r}, and then {server.printed()!r}")
         with self.server() as server:
             if not serves(server):
-                raise Wrong(f"again: {server.first!r}, {server.said()!r}")
+                raise Wrong(f"again: {server.first!r}, {server.printed()!r}")
         return answer
 
     def at_operator(self, call, line, untroubled, again, earlier=()):

@@ -91,14 +91,14 @@ def steps(folder):
             ("halt nobody", ["B8 App", "stage: current.toml has no app nobody, only editor;"]),
         ]
         for words, wanted in calls:
-            said = it.stage(f"{words} --operator 8081")
-            if lost := [text for text in wanted if text not in said]:
-                return f"{words}: {said!r} lacks {lost}"
+            printed = it.stage(f"{words} --operator 8081")
+            if lost := [text for text in wanted if text not in printed]:
+                return f"{words}: {printed!r} lacks {lost}"
     if it.bytes("editor.rule") != (RULE % 500).encode():
         return "back: the rule isn't as before"
-    said = it.stage("halt editor --operator 8081")
-    if "not loaded at 18098" not in said or it.bytes("editor.rule") != NONE.encode():
-        return f"without a server: {said!r}"
+    printed = it.stage("halt editor --operator 8081")
+    if "not loaded at 18098" not in printed or it.bytes("editor.rule") != NONE.encode():
+        return f"without a server: {printed!r}"
 
 
 def halts_any_rule(folder):
@@ -110,12 +110,12 @@ def halts_any_rule(folder):
     it = Stage(folder / "any", apps, **{"editor.rule": rule, "a/agent.bin": PROGRAM})
     with it.served():
         for app in ("editor", "agent"):
-            if OFFERED not in (said := it.run(POSTED, REQUEST % app)):
-                return f"before: {said}"
-            if "generation" not in (said := it.stage(f"halt {app} --operator 8081")):
-                return f"halt {app}: {said}"
-            if NOTHING not in (said := it.run(POSTED, REQUEST % app)):
-                return f"after halt {app}: {said}"
+            if OFFERED not in (printed := it.run(POSTED, REQUEST % app)):
+                return f"before: {printed}"
+            if "generation" not in (printed := it.stage(f"halt {app} --operator 8081")):
+                return f"halt {app}: {printed}"
+            if NOTHING not in (printed := it.run(POSTED, REQUEST % app)):
+                return f"after halt {app}: {printed}"
     if (it.bytes("editor.rule"), it.bytes("a/agent.bin")) != (NONE.encode(), HALTED):
         return "a file isn't the halting one"
 
@@ -131,16 +131,17 @@ def both_servers(folder):
             if not awaited(lambda: OFFERED in it.run(f"{ask} || :", REQUEST % "editor")):
                 return "the second server doesn't offer"
             for ports in ("--operator 8081", "--operator 8081 --operator 18108"):
-                said = it.stage(f"halt editor {ports}")
-                if said.count("generation") != 2 * ports.count("--"):
-                    return f"{ports}: {said}"
-            if NOTHING not in (said := it.run(ask, REQUEST % "editor")):
-                return f"the second server: {said}"
-            said = it.stage("halt editor --operator 18199 --operator 18108")
-            if "not loaded at 18199;" not in said or "server at 18108: generation" not in said:
-                return f"one server doesn't reply: {said}"
-            if "other apps" in (said := it.stage("status --operator 18108")):
-                return f"status: {said}"
+                printed = it.stage(f"halt editor {ports}")
+                if printed.count("generation") != 2 * ports.count("--"):
+                    return f"{ports}: {printed}"
+            if NOTHING not in (printed := it.run(ask, REQUEST % "editor")):
+                return f"the second server: {printed}"
+            printed = it.stage("halt editor --operator 18199 --operator 18108")
+            parts = ("not loaded at 18199;", "server at 18108: generation")
+            if not all(part in printed for part in parts):
+                return f"one server doesn't reply: {printed}"
+            if "other apps" in (printed := it.stage("status --operator 18108")):
+                return f"status: {printed}"
         finally:
             second.kill()
 
@@ -148,9 +149,10 @@ def both_servers(folder):
 def wrong_served(it, calls):
     """The first of these calls whose status isn't the wanted one, or whose output lacks a text."""
     for words, status, wanted in calls:
-        said = it.run(f"rollout {words}")
-        if wanted not in said or ("\n1 " in said or said.startswith("1 ")) != (status == 1):
-            return f"{words}: {said!r}, not {wanted!r}"
+        printed = it.run(f"rollout {words}")
+        has_failed = "\n1 " in printed or printed.startswith("1 ")
+        if wanted not in printed or has_failed != (status == 1):
+            return f"{words}: {printed!r}, not {wanted!r}"
     return None
 
 
@@ -222,27 +224,28 @@ def other_manifest(folder):
     it = Stage(folder / "other", [('[[app]]\nappid = "agent"', 'rule = "editor.rule"')])
     served = Stage(folder / "editors")
     with served.served():
-        said = it.run("ROLLOUT_OPERATOR=8081 rollout stage halt agent")
-        if "not loaded, it is another one: it serves editor" not in said or "\n1 " not in said:
-            return f"another server: {said!r}"
-        said = it.run("rollout stage put current.toml --operator 8081")
-        if "1 stage: server at 18098 is another one: it serves editor, loaded" not in said:
-            return f"another server, by a put: {said!r}"
-        said = it.run("ROLLOUT_OPERATOR=8081 rollout stage halt agent --other-server 2>&1")
-        if "generation 2\n" not in said or "server at 18098: apps gone: editor\n" not in said:
-            return f"ROLLOUT_OPERATOR: {said!r}"
-        said = it.run("ROLLOUT_OPERATOR=1 rollout stage status --operator 8081")
-        if "generation 2, what is in place\n" not in said:
-            return f"--operator: {said!r}"
-        if "server at 1:" in said:
-            return f"ROLLOUT_OPERATOR beside --operator: {said!r}"
+        printed = it.run("ROLLOUT_OPERATOR=8081 rollout stage halt agent")
+        parts = ("not loaded, it is another one: it serves editor", "\n1 ")
+        if not all(part in printed for part in parts):
+            return f"another server: {printed!r}"
+        printed = it.run("rollout stage put current.toml --operator 8081")
+        if "1 stage: server at 18098 is another one: it serves editor, loaded" not in printed:
+            return f"another server, by a put: {printed!r}"
+        printed = it.run("ROLLOUT_OPERATOR=8081 rollout stage halt agent --other-server 2>&1")
+        if "generation 2\n" not in printed or "server at 18098: apps gone: editor\n" not in printed:
+            return f"ROLLOUT_OPERATOR: {printed!r}"
+        printed = it.run("ROLLOUT_OPERATOR=1 rollout stage status --operator 8081")
+        if "generation 2, what is in place\n" not in printed:
+            return f"--operator: {printed!r}"
+        if "server at 1:" in printed:
+            return f"ROLLOUT_OPERATOR beside --operator: {printed!r}"
         it.write("wrong.toml", "server = 1\n")
-        said = it.run("rollout load /etc/rollout/wrong.toml --operator 8081")
+        printed = it.run("rollout load /etc/rollout/wrong.toml --operator 8081")
         hint = f"rollout check {it.folder}/wrong.toml prints the place and the reason"
-        if said != f"1 refused M2 Field\n{hint}\n":
-            return f"a refused load: {said!r}"
-    if "Usage: rollout stage " not in (said := it.run("rollout stage --help")):
-        return said
+        if printed != f"1 refused M2 Field\n{hint}\n":
+            return f"a refused load: {printed!r}"
+    if "Usage: rollout stage " not in (printed := it.run("rollout stage --help")):
+        return printed
 
 
 def used_quota(folder):
@@ -254,11 +257,11 @@ def used_quota(folder):
         for bucket in range(0, 10000, 400):
             body = REQUEST.replace('"version"', f'"cohort":"b:{bucket:04}","version"')
             it.run(POSTED, body % "editor")
-        said = it.stage("raise editor 10000 --operator 8081")
-        if ": used up\n" not in said or SAME not in said or "lost" in said:
-            return said
-        if " of 2: used up\n" not in (said := it.stage("status --operator 8081")):
-            return f"status: {said}"
+        printed = it.stage("raise editor 10000 --operator 8081")
+        if ": used up\n" not in printed or SAME not in printed or "lost" in printed:
+            return printed
+        if " of 2: used up\n" not in (printed := it.stage("status --operator 8081")):
+            return f"status: {printed}"
 
 
 def lifted(folder):
@@ -269,20 +272,20 @@ def lifted(folder):
     put = f"put {elsewhere.folder}/current.toml"
     alone(it, "halt editor")
     before = it.all()
-    if "1 stage: this lifts the halt of editor" not in (said := alone(it, put)):
-        return said
+    if "1 stage: this lifts the halt of editor" not in (printed := alone(it, put)):
+        return printed
     if it.all() != before:
         return "a stopped put has changed a file"
     elsewhere.write("editor.rule", NONE)
-    if "the files are so already\n" not in (said := alone(it, put)):
-        return f"with a halt: {said}"
+    if "the files are so already\n" not in (printed := alone(it, put)):
+        return f"with a halt: {printed}"
     elsewhere.write("editor.rule", RULE % 2500)
-    if "replaced editor.rule\n" not in (said := alone(it, f"{put} --anyway")):
-        return f"--anyway: {said}"
+    if "replaced editor.rule\n" not in (printed := alone(it, f"{put} --anyway")):
+        return f"--anyway: {printed}"
     elsewhere.write("current.toml", manifest([EDITOR], "# a comment\n"))
     elsewhere.write("editor.rule", RULE % 5000)
-    if "replaced editor.rule\nreplaced current.toml\n" not in (said := alone(it, put)):
-        return f"two files: {said}"
+    if "replaced editor.rule\nreplaced current.toml\n" not in (printed := alone(it, put)):
+        return f"two files: {printed}"
     alone(it, "back --anyway")
     if it.bytes("editor.rule") != (RULE % 2500).encode() or b"# a" in it.bytes("current.toml"):
         return "back hasn't restored both files"
@@ -293,9 +296,9 @@ def elsewhere_stays(folder):
     it = Stage(folder / "here")
     before = it.all()
     for words in ("halt editor", "raise editor 2500", "back", f"put {it.folder}/current.toml"):
-        said = it.run(f"rollout stage {words} --no-load --folder /etc/rolloutt")
-        if "1 stage:" not in said or "no such folder" not in said:
-            return f"{words}: {said}"
+        printed = it.run(f"rollout stage {words} --no-load --folder /etc/rolloutt")
+        if "1 stage:" not in printed or "no such folder" not in printed:
+            return f"{words}: {printed}"
     if it.all() != before or (it.folder / ".stage").exists():
         return "the working folder has changed"
 
@@ -316,15 +319,15 @@ def other_files_stay(folder):
         ("halt editor", "stage-2.rule", NONE),
         ("raise 'editor: beta' 2500", "x=1.rule", RULE % 2500),
     ):
-        said = alone(it, words)
+        printed = alone(it, words)
         before[name] = text.encode()
         if it.all() != before:
-            return f"{words}: {said}"
+            return f"{words}: {printed}"
     it.write("x=1.rule", texts)
-    if "isn't as step 2 left it" not in (said := alone(it, "raise 'editor: beta' 2500")):
-        return f"edited: {said}"
-    if "several tests" not in (said := alone(it, "raise 'editor: beta' 2500 --anyway")):
-        return f"two tests: {said}"
+    if "isn't as step 2 left it" not in (printed := alone(it, "raise 'editor: beta' 2500")):
+        return f"edited: {printed}"
+    if "several tests" not in (printed := alone(it, "raise 'editor: beta' 2500 --anyway")):
+        return f"two tests: {printed}"
 
 
 def links_stay(folder):
@@ -335,13 +338,13 @@ def links_stay(folder):
     (outside / "editor.rule").write_text(RULE % 500)
     (it.folder / "linked").symlink_to(outside)
     for words in ("halt editor", "raise editor 2500"):
-        if "1 stage:" not in (said := alone(it, words)) or "link" not in said:
-            return f"{words}: {said}"
+        if "1 stage:" not in (printed := alone(it, words)) or "link" not in printed:
+            return f"{words}: {printed}"
     it.write("current.toml", manifest([EDITOR]))
     (it.folder / ".stage").symlink_to(outside)
-    said = alone(it, "halt editor")
-    if "1 stage:" not in said or len(list(outside.iterdir())) != 1:
-        return f".stage: {said}"
+    printed = alone(it, "halt editor")
+    if "1 stage:" not in printed or len(list(outside.iterdir())) != 1:
+        return f".stage: {printed}"
     if (outside / "editor.rule").read_text() != RULE % 500:
         return "a linked file has changed"
 
@@ -354,25 +357,26 @@ def one_at_a_time(folder):
     (it.folder / ".stage" / "at_work").write_text("put a.toml by anna, pid 4711, since 12:04")
     held = os.open(it.folder, os.O_RDONLY)
     fcntl.flock(held, fcntl.LOCK_EX)
-    said = alone(it, "raise editor 700")
-    if "at work here" not in said or "(put a.toml by anna, pid 4711, since 12:04);" not in said:
-        return said
+    printed = alone(it, "raise editor 700")
+    parts = ("at work here", "(put a.toml by anna, pid 4711, since 12:04);")
+    if not all(part in printed for part in parts):
+        return printed
     words = it.words("rollout stage halt editor --folder /etc/rollout --no-load")
     with subprocess.Popen(words, stdout=subprocess.PIPE, text=True, **it.place()) as halt:
         time.sleep(1)
         os.close(held)
-        if "replaced editor.rule\n" not in (said := halt.communicate()[0]):
-            return f"a halt that waits: {said}"
+        if "replaced editor.rule\n" not in (printed := halt.communicate()[0]):
+            return f"a halt that waits: {printed}"
     if (it.folder / ".stage" / "at_work").read_text():
         return "the note stays after the call"
     alone(it, "back --anyway")
     twice = [EDITOR, ('[[app]]\nappid = "other"', 'rule = "./editor.rule"')]
     it.write("current.toml", manifest(twice))
     for words in ("halt editor", "raise editor 2500"):
-        if "the file of app other, too" not in (said := alone(it, words)):
-            return f"{words}: {said}"
-    if "replaced editor.rule\n" not in (said := alone(it, "halt editor --anyway")):
-        return f"--anyway: {said}"
+        if "the file of app other, too" not in (printed := alone(it, words)):
+            return f"{words}: {printed}"
+    if "replaced editor.rule\n" not in (printed := alone(it, "halt editor --anyway")):
+        return f"--anyway: {printed}"
 
 
 def in_the_way(it, name):
@@ -387,32 +391,34 @@ def stops_truly(folder):
     it = Stage(folder / "stops", apps, **{"other.rule": RULE % 500})
     next_one = Stage(folder / "next", apps, **{"other.rule": RULE % 900, "editor.rule": RULE % 900})
     in_the_way(it, "other.rule")
-    said = alone(it, f"put {next_one.folder}/current.toml")
-    if "1 stage: the step stopped at other.rule: " not in said:
-        return f"the second file: {said}"
+    printed = alone(it, f"put {next_one.folder}/current.toml")
+    if "1 stage: the step stopped at other.rule: " not in printed:
+        return f"the second file: {printed}"
     if it.bytes("editor.rule") != (RULE % 900).encode():
         return "the first file isn't replaced"
-    if "stopped step 1 of" not in (said := alone(it, "status")):
-        return f"status: {said}"
+    if "stopped step 1 of" not in (printed := alone(it, "status")):
+        return f"status: {printed}"
     for number in range(100):
         (it.folder / f"other.rule.{number}.new").unlink()
-    if "isn't as step 1 left it" not in (said := alone(it, f"put {next_one.folder}/current.toml")):
-        return f"again: {said}"
+    printed = alone(it, f"put {next_one.folder}/current.toml")
+    if "isn't as step 1 left it" not in printed:
+        return f"again: {printed}"
     rest = f"put {next_one.folder}/current.toml --anyway"
-    if "replaced other.rule\n" not in (said := alone(it, rest)):
-        return f"the rest: {said}"
-    if "stopped step 1 of" not in (said := alone(it, "status")) or "done step 2 of" not in said:
-        return f"status of both: {said}"
+    if "replaced other.rule\n" not in (printed := alone(it, rest)):
+        return f"the rest: {printed}"
+    printed = alone(it, "status")
+    if "stopped step 1 of" not in printed or "done step 2 of" not in printed:
+        return f"status of both: {printed}"
     in_the_way(it, ".stage/2.json")
-    said = alone(it, "back --anyway")
-    if "\nstage: the files are restored, but .stage can't be written: " not in said:
-        return f"the record: {said}"
-    if "nothing has changed" in said or it.bytes("other.rule") != (RULE % 500).encode():
-        return f"the file isn't restored: {said}"
+    printed = alone(it, "back --anyway")
+    if "\nstage: the files are restored, but .stage can't be written: " not in printed:
+        return f"the record: {printed}"
+    if "nothing has changed" in printed or it.bytes("other.rule") != (RULE % 500).encode():
+        return f"the file isn't restored: {printed}"
     for number in range(100):
         (it.folder / f".stage/2.json.{number}.new").unlink()
-    if "undone step 2 of" not in (said := alone(it, "back --anyway")):
-        return f"back again: {said}"
+    if "undone step 2 of" not in (printed := alone(it, "back --anyway")):
+        return f"back again: {printed}"
 
 
 def halts_in_trouble(folder):
@@ -422,14 +428,14 @@ def halts_in_trouble(folder):
     it = Stage(folder / "trouble", apps, **{"other.rule": RULE % 9, "editor.rule": RULE % 10000})
 
     def wrong(case, wanted):
-        said = it.stage("halt editor --operator 8081")
-        if ", editor is halted\n" not in said or "\n1 " not in said or wanted not in said:
-            return f"{case}: {said}"
-        if NOTHING not in (said := it.run(POSTED, REQUEST % "editor")):
-            return f"{case}: offered: {said}"
+        printed = it.stage("halt editor --operator 8081")
+        if ", editor is halted\n" not in printed or "\n1 " not in printed or wanted not in printed:
+            return f"{case}: {printed}"
+        if NOTHING not in (printed := it.run(POSTED, REQUEST % "editor")):
+            return f"{case}: offered: {printed}"
         it.run("rollout resume editor --operator 8081")
-        if OFFERED not in (said := it.run(POSTED, REQUEST % "editor")):
-            return f"{case}: not offered again: {said}"
+        if OFFERED not in (printed := it.run(POSTED, REQUEST % "editor")):
+            return f"{case}: not offered again: {printed}"
         return None
 
     with it.served():
@@ -455,29 +461,29 @@ def drifts(folder):
     mends = "rollout load"
     with it.served():
         alone(it, "raise editor 2500")
-        said = it.stage("raise editor 5000 --operator 8081")
-        if "1 stage: server at 18098 serves what was there before the first step" not in said:
-            return f"an earlier step: {said}"
-        if mends not in said or it.bytes("editor.rule") != (RULE % 2500).encode():
-            return f"nothing has changed: {said}"
-        said = it.stage("raise editor 5000 --operator 8081 --anyway")
-        if "from what the server at 18098 serves" not in said or ">= 500 and" not in said:
-            return f"--anyway: {said}"
+        printed = it.stage("raise editor 5000 --operator 8081")
+        if "1 stage: server at 18098 serves what was there before the first step" not in printed:
+            return f"an earlier step: {printed}"
+        if mends not in printed or it.bytes("editor.rule") != (RULE % 2500).encode():
+            return f"nothing has changed: {printed}"
+        printed = it.stage("raise editor 5000 --operator 8081 --anyway")
+        if "from what the server at 18098 serves" not in printed or ">= 500 and" not in printed:
+            return f"--anyway: {printed}"
         it.write("editor.rule", RULE % 9000)
-        said = it.stage("raise editor 9500 --operator 8081")
-        if "1 stage: editor.rule was edited since step 2" not in said:
-            return f"an edited file: {said}"
+        printed = it.stage("raise editor 9500 --operator 8081")
+        if "1 stage: editor.rule was edited since step 2" not in printed:
+            return f"an edited file: {printed}"
         other = Stage(folder / "drifted", **{"editor.rule": RULE % 6000})
-        said = it.stage(f"put {other.folder}/current.toml --operator 8081")
-        if ">= 5000 and bucket(3) < 6000" not in said or "lost" in said:
-            return f"a put: {said}"
+        printed = it.stage(f"put {other.folder}/current.toml --operator 8081")
+        if ">= 5000 and bucket(3) < 6000" not in printed or "lost" in printed:
+            return f"a put: {printed}"
         it.run(f"rollout load {other.folder}/current.toml --operator 8081")
         other.write("editor.rule", RULE % 6500)
         it.run(f"rollout load {other.folder}/current.toml --operator 8081")
-        said = it.stage("raise editor 7000 --operator 8081")
+        printed = it.stage("raise editor 7000 --operator 8081")
         today = time.strftime("%Y-%m-%dT", time.gmtime())
-        if f"1 stage: server at 18098 serves what no step left, loaded {today}" not in said:
-            return f"of no step: {said}"
+        if f"1 stage: server at 18098 serves what no step left, loaded {today}" not in printed:
+            return f"of no step: {printed}"
 
 
 def resumes(folder):
@@ -488,24 +494,24 @@ def resumes(folder):
     it = Stage(folder / "resumes", **{"editor.rule": rule % 10000})
     with it.served():
         it.stage("halt editor --operator 8081")
-        said = it.stage("resume editor 1% --operator 8081")
+        printed = it.stage("resume editor 1% --operator 8081")
         wanted = ["none       2.1", "from before the halt:\n", "replaced editor.rule\n"]
         wanted += ["editor is offered again\n"]
-        if lost := [text for text in wanted if text not in said]:
-            return f"resume: {said!r} lacks {lost}"
+        if lost := [text for text in wanted if text not in printed]:
+            return f"resume: {printed!r} lacks {lost}"
         if it.bytes("editor.rule") != (rule % 100).encode():
             return "the rule isn't cut"
         body = REQUEST.replace('"version"', '"cohort":"b:0000","version"')
-        if OFFERED not in (said := it.run(POSTED, body % "editor")):
-            return f"not offered: {said}"
-        if "1 stage: editor isn't halted by a step" not in (said := alone(it, "resume editor")):
-            return f"resume again: {said}"
-        said = it.run("rollout halt editor --operator 8081 2>&1")
-        if "unless it has --counters: rollout stage halt editor keeps it\n" not in said:
-            return f"a halt without its note: {said}"
-        said = it.stage("raise editor 200 --operator 8081")
-        if NOTHING not in (said := it.run(POSTED, body % "editor")):
-            return f"a server's halt is lifted: {said}"
+        if OFFERED not in (printed := it.run(POSTED, body % "editor")):
+            return f"not offered: {printed}"
+        if "1 stage: editor isn't halted by a step" not in (printed := alone(it, "resume editor")):
+            return f"resume again: {printed}"
+        printed = it.run("rollout halt editor --operator 8081 2>&1")
+        if "unless it has --counters: rollout stage halt editor keeps it\n" not in printed:
+            return f"a halt without its note: {printed}"
+        printed = it.stage("raise editor 200 --operator 8081")
+        if NOTHING not in (printed := it.run(POSTED, body % "editor")):
+            return f"a server's halt is lifted: {printed}"
 
 
 STAGES = {

@@ -129,10 +129,10 @@ def compared(program, folder, workers):
     if most > available():
         return f"--workers {workers} may take {most} MB, which aren't free"
     peak, kept = taken(program, folder, workers)
-    said = f"--workers {workers} takes {peak} MB of {most} ({peak / most:.2f})"
+    summary = f"--workers {workers} takes {peak} MB of {most} ({peak / most:.2f})"
     if not LEAST * most <= peak <= most:
-        raise Wrong(f"{said}, and not {LEAST} to 1 of it")
-    return f"{said}, and keeps {kept}"
+        raise Wrong(f"{summary}, and not {LEAST} to 1 of it")
+    return f"{summary}, and keeps {kept}"
 
 
 def available():

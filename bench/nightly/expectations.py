@@ -13,10 +13,10 @@ from nightly.servers import generations
 EARLIER = "was halted there before"
 
 
-def expect(night, call, said, is_loose=False):
-    """Yields what a call said that isn't so. If `is_loose`, another call was at work: the servers
-    were halted before, and the lines about servers and the status aren't compared."""
-    status, output, errors = said
+def expect(night, call, result, is_loose=False):
+    """Yields what a call printed that isn't so. If `is_loose`, another call was at work: the
+    servers were halted before, and the lines about servers and the status aren't compared."""
+    status, output, errors = result
     plan = plan_of(night, call)
     has_stopped = UNCHANGED in errors or KEPT in errors
     yield from untrue_rows(night, plan, call, output)
@@ -121,8 +121,8 @@ def is_loaded(night, call, plan, known, server, output):
     is_cut = set(server.load.appids()) - known and any(it.is_damaged for it in night.steps)
     if is_strange is None or is_cut:
         # Perhaps only the cut record knows what it serves: then it is another one.
-        said = call.word == "halt" and call.appid in server.halts
-        return call.other_server or len(generations(output, server.operator)) > said
+        halted = call.word == "halt" and call.appid in server.halts
+        return call.other_server or len(generations(output, server.operator)) > halted
     if call.word != "halt" or call.anyway or server.load in (plan.now, plan.then):
         return True
     loads = [it for it in (plan.now, plan.then) if it]

@@ -109,9 +109,10 @@ class Night:
         """The status, output and errors of a call of `stage`; `ahead` are words before it."""
         words = [*call.words(), "--folder", str(self.folder)]
         self.note("rollout " + " ".join(words) + (f"   # by {' '.join(ahead)}" if ahead else ""))
-        said = run(self, [*ahead, str(self.programs / "rollout-tools"), *words], **how)
-        self.note("\n".join(f"    {it}" for it in f"= {said[0]}\n{said[1]}{said[2]}".splitlines()))
-        return said
+        printed = run(self, [*ahead, str(self.programs / "rollout-tools"), *words], **how)
+        lines = f"= {printed[0]}\n{printed[1]}{printed[2]}".splitlines()
+        self.note("\n".join(f"    {it}" for it in lines))
+        return printed
 
     def recorded(self):
         """The steps that the records spell, in the order of their numbers; None for one that can't
@@ -150,8 +151,8 @@ class Night:
                 yield f"{name} has the mode {modes[name]:o}, not {self.modes[name]:o}"
         self.modes = modes
         for it in self.servers:
-            if it.is_up and (said := it.differs()):
-                yield f"server at {it.operator}: {said}"
+            if it.is_up and (fault := it.differs()):
+                yield f"server at {it.operator}: {fault}"
         wanted = [None if it.is_damaged else it.spelt() for it in self.steps]
         if (records := self.recorded()) != wanted:
             yield f"the records have {records}, not {wanted}"
@@ -162,12 +163,12 @@ class Night:
             if it.is_up:
                 tried = machines(it.load)
                 for version, bucket in self.chance.sample(tried, min(3, len(tried))):
-                    if said := it.misoffers(version, bucket):
-                        yield f"server at {it.operator}: {said}"
+                    if fault := it.misoffers(version, bucket):
+                        yield f"server at {it.operator}: {fault}"
 
     def compare(self):
-        for said in (*self.differences(), *self.misoffers()):
-            self.wrong(said)
+        for fault in (*self.differences(), *self.misoffers()):
+            self.wrong(fault)
 
     @contextlib.contextmanager
     def locked(self):

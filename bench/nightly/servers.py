@@ -30,7 +30,8 @@ class Watched(Server):
         self.__enter__()
         self.is_up = self.first == "serving generation 1\n"
         if self.is_up != (load is not None):
-            return self.night.wrong(f"a start on {load and 'good' or 'bad'} files: {self.said()}")
+            files = "good" if load else "bad"
+            return self.night.wrong(f"a start on {files} files: {self.printed()}")
         if not self.is_up:
             self.process.wait()
             self.__exit__()
@@ -61,8 +62,8 @@ class Watched(Server):
         if is_killed:
             self.wait_for_commit()
             self.process.kill()
-        elif (said := self.ask("stop")) != "stopping\n":
-            self.night.wrong(f"stop: {said}")
+        elif (printed := self.ask("stop")) != "stopping\n":
+            self.night.wrong(f"stop: {printed}")
         self.process.wait(self.patience)
         self.__exit__()
         self.is_up = False

@@ -24,8 +24,8 @@ def begin(night):
 def acts(night):
     """A call with nothing in its way."""
     call = draw_call(night)
-    said = night.call(call)
-    for text in expect(night, call, said):
+    printed = night.call(call)
+    for text in expect(night, call, printed):
         night.wrong(text)
 
 

@@ -124,14 +124,14 @@ def sweep(night, title):
             for what in (f"error={error}", "signal=SIGKILL"):
                 it.again()
                 night.complaints.clear()
-                said = night.call(call, [
+                printed = night.call(call, [
                     "strace", "-f", "--seccomp-bpf", "-qqq", "-o", "/dev/null",
                     "-e", f"trace={name}", "-e", f"inject={name}:{what}:when={number}",
                 ])
-                settle(night, call, said, said[0] not in (0, 1))
+                settle(night, call, printed, printed[0] not in (0, 1))
                 night.compare()
                 back_again(night, call, it)
-                yield f"{title}, {name} {number}, {what}", list(night.complaints), said
+                yield f"{title}, {name} {number}, {what}", list(night.complaints), printed
         it.again()
 
 
@@ -146,8 +146,8 @@ def back_again(night, call, before):
     step, again = left[-1], call
     if call.word != "back":
         again = Call("back", anyway=True, servers=list(night.servers))
-    said = night.call(again)
-    for text in expect(night, again, said):
+    printed = night.call(again)
+    for text in expect(night, again, printed):
         night.wrong(f"back after it: {text}")
     files = before.saved[0] | (step.before if step.is_undone else {})
     if night.found() != {name: text for name, text in files.items() if text is not None}:

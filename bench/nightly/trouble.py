@@ -26,10 +26,10 @@ AGAIN = "call stage back again\n"
 MOST = {"openat": 60, "write": 14, "close": 60, "rename": 4}
 
 
-def settle(night, call, said, is_killed):
+def settle(night, call, printed, is_killed):
     """What a call with something in its way may have left, and whether it says so. From here on the
     oracle knows what there is."""
-    status, output, errors = said
+    status, output, errors = printed
     plan, found = plan_of(night, call), night.found()
     for text in untrue_words(night, errors):
         night.wrong(text)
@@ -47,8 +47,8 @@ def settle(night, call, said, is_killed):
     for line in output.splitlines():
         if line.startswith("replaced ") and line[9:] not in changed:
             night.wrong(f"untrue: {line}")
-    says_same = UNCHANGED in errors or KEPT in errors
-    if says_same and changed:
+    prints_same = UNCHANGED in errors or KEPT in errors
+    if prints_same and changed:
         night.wrong(f"untrue: nothing has changed, but {changed}")
     if status == 0 and not call.dry_run and len(changed) != len(expected):
         night.wrong(f"status 0, but {sorted(set(expected) - set(changed))} aren't replaced")
@@ -88,12 +88,12 @@ def settle_steps(night, plan, changed, expected, errors):
             night.wrong("untrue: the step isn't undone")
 
 
-def settle_server(night, call, plan, server, says_same, is_whole):
+def settle_server(night, call, plan, server, prints_same, is_whole):
     """What a call with something in its way may have left at a server. `is_whole`: all files are as
     the call leaves them."""
     place = f"server at {server.operator}"
     generation, digest, path, halts = server.state()
-    if generation < server.generation or says_same and generation != server.generation:
+    if generation < server.generation or prints_same and generation != server.generation:
         night.wrong(f"{place}: generation {generation} after {server.generation}")
     is_next = plan.then is not None and digest == plan.then.digest()
     if digest != server.load.digest() and not (is_next and is_whole):
@@ -122,16 +122,16 @@ def acts_under_strace(night):
     what = "signal=SIGKILL" if is_killed else f"error={night.chance.choice(ERRORS[name])}"
     ahead = ["strace", "-f", "--seccomp-bpf", "-qqq", "-o", "/dev/null",
              "-e", f"trace={name}", "-e", f"inject={name}:{what}:when={number}"]
-    said = night.call(call, ahead)
-    return settle(night, call, said, name == "unlink" or is_killed and said[0] not in (0, 1))
+    printed = night.call(call, ahead)
+    return settle(night, call, printed, name == "unlink" or is_killed and printed[0] not in (0, 1))
 
 
 def acts_killed_in_time(night):
     """A call that is killed after a moment."""
     call = draw_call(night)
     after = 2 * night.chance.random() ** 2
-    said = night.call(call, ["timeout", "-s", "KILL", f"{after:.3f}"])
-    settle(night, call, said, said[0] not in (0, 1))
+    printed = night.call(call, ["timeout", "-s", "KILL", f"{after:.3f}"])
+    settle(night, call, printed, printed[0] not in (0, 1))
 
 
 def acts_on_a_full_disk(night):
@@ -143,9 +143,9 @@ def acts_on_a_full_disk(night):
     room = os.statvfs(night.folder)
     with open(filler, "wb") as file, contextlib.suppress(OSError):
         file.write(bytes(max(0, room.f_bavail * room.f_frsize - free)))
-    said = night.call(call)
+    printed = night.call(call)
     filler.unlink()
-    return settle(night, call, said, False)
+    return settle(night, call, printed, False)
 
 
 def acts_in_a_read_only_folder(night):
@@ -155,10 +155,10 @@ def acts_in_a_read_only_folder(night):
     call = draw_call(night)
     mount = ["mount", "-o", "remount,ro", str(night.folder)]
     subprocess.run(mount, check=True)
-    said = night.call(call)
+    printed = night.call(call)
     mount[2] = "remount,rw"
     subprocess.run(mount, check=True)
-    return settle(night, call, said, False)
+    return settle(night, call, printed, False)
 
 
 def orders(calls):
@@ -175,9 +175,10 @@ def orders(calls):
 def acts_beside_another(night):
     """Two calls at the same time: as if one came after the other, or between the servers and the
     files of a halt; or one stops at the other."""
-    calls, said = [draw_call(night), draw_call(night)], {}
+    calls, printed = [draw_call(night), draw_call(night)], {}
     threads = [
-        threading.Thread(target=lambda k=k: said.update({k: night.call(calls[k])})) for k in (0, 1)
+        threading.Thread(target=lambda k=k: printed.update({k: night.call(calls[k])}))
+        for k in (0, 1)
     ]
     for it in threads:
         it.start()
@@ -189,9 +190,9 @@ def acts_beside_another(night):
         complaints = []
         for k, part in order:
             if part == "servers":
-                complaints += halt_servers(night, calls[k], said[k][2])[1]
-            elif AT_WORK not in said[k][2]:
-                complaints += expect(night, calls[k], said[k], is_loose=True)
+                complaints += halt_servers(night, calls[k], printed[k][2])[1]
+            elif AT_WORK not in printed[k][2]:
+                complaints += expect(night, calls[k], printed[k], is_loose=True)
         for it in night.servers:
             if it.is_up:
                 it.generation = it.state()[0]
@@ -209,15 +210,15 @@ def acts_after_a_lock(night):
         if call.word == "halt":
             timer = threading.Timer(1, fcntl.flock, [held, fcntl.LOCK_UN])
             timer.start()
-            said = night.call(call)
+            printed = night.call(call)
             timer.join()
         else:
-            said = night.call(call)
+            printed = night.call(call)
     if call.word == "halt":
-        for text in expect(night, call, said):
+        for text in expect(night, call, printed):
             night.wrong(text)
-    elif said[0] != 1 or AT_WORK not in said[2]:
-        if not (call.dry_run and said[0] == 0):
+    elif printed[0] != 1 or AT_WORK not in printed[2]:
+        if not (call.dry_run and printed[0] == 0):
             night.wrong("it has to stop at the lock")
-    elif UNCHANGED not in said[2]:
+    elif UNCHANGED not in printed[2]:
         night.wrong(f"{UNCHANGED} isn't printed")
