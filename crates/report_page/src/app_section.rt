@@ -104,14 +104,12 @@ fn marks_of<'a>(
     let Some(folder) = folder else {
         return Ok(marks);
     };
-    let mut left = folder.steps.as_slice();
-    while let [newer @ .., step] = left {
+    for step in folder.steps.iter().rev() {
         if step.appid.is_empty() || step.appid.as_str() == appid {
             let time = step.time.as_str();
             let label = step.label.as_str();
             marks.push(StepMark { time, label })?;
         }
-        left = newer;
     }
     Ok(marks)
 }

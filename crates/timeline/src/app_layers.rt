@@ -122,9 +122,10 @@ fn draw_layers<'a>(
     requires wide { 0 < source.now.bins.width }
     requires all { length below.old ≡ source.now.bins.count }
 {
-    let mut opacity = "1";
-    let mut left = versions;
-    while let [older @ .., version] = left {
+    let mut is_faint = false;
+    let mut place = versions.len();
+    for version in versions.iter().rev() {
+        place = place.saturating_sub(1);
         let before = Vec::from_slice(alloc, below)?;
         raise_by_version(
             alloc,
@@ -135,23 +136,22 @@ fn draw_layers<'a>(
             &source.bins,
         )?;
         let bars = bars_of(alloc, before.as_slice(), below, totals, most)?;
-        draw_layer(page, class_of(older.len()), opacity, bars.as_str());
-        opacity = if most.is_none() { "0.3" } else { "1" };
-        left = older;
+        draw_layer(page, class_of(place), is_faint, bars.as_str());
+        is_faint = most.is_none();
     }
     let bars = bars_of(alloc, below, totals, totals, most)?;
-    draw_layer(page, Class::Others, "1", bars.as_str());
+    draw_layer(page, Class::Others, false, bars.as_str());
     Ok(())
 }
 
 // A layer, unless it is empty.
-fn draw_layer(page: &mut Document, class: Class, opacity: &str, bars: &str) {
+fn draw_layer(page: &mut Document, class: Class, is_faint: bool, bars: &str) {
     if bars.is_empty() {
         return;
     }
     page.open_as(Tag::Path, class);
-    if opacity != "1" {
-        page.attribute(Attribute::FillOpacity, opacity);
+    if is_faint {
+        page.attribute(Attribute::FillOpacity, "0.3");
     }
     page.attribute(Attribute::D, bars);
     page.close();

@@ -153,10 +153,8 @@ fn draw_labels(page: &mut Document, bins: &Bins, marks: &[Mark<'_>]) {
     page.attribute(Attribute::Xmlns, "http://www.w3.org/2000/svg");
     page.attribute(Attribute::AriaHidden, "true");
     let mut free: u128 = 1000;
-    let mut left = marks;
-    while let [earlier @ .., mark] = left {
+    for mark in marks.iter().rev() {
         free = draw_label(page, bins, *mark, free);
-        left = earlier;
     }
     page.close();
     page.line();
