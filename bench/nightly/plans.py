@@ -66,6 +66,10 @@ def may_be_in_force(night, app):
     return is_halted and any(not it.is_undone for it in halts)
 
 
+def is_halted_by_a_step(night, appid):
+    return any(it.action == f"halt {appid}" and not it.is_undone for it in night.steps)
+
+
 def app_in(load, appid):
     return next((it for it in load.apps if it.appid == appid), None)
 
@@ -241,6 +245,16 @@ def plan_put(night, call, plan):
             plan.maybe_lifted.append(app.appid)
             if not call.anyway:
                 (plan.stops if may and app.file == after.file else plan.perhaps).add("lifts")
+    # An app that isn't in place isn't offered, so its halt by a step is in force.
+    for app in load_of(call.source).apps:
+        if plan.files[app.file] == NOTHING[app.kind] or not is_halted_by_a_step(night, app.appid):
+            continue
+        if not present or not app_in(present, app.appid):
+            plan.lifted.append(app.appid)
+            if not call.anyway:
+                plan.stops.add("lifts")
+        elif plan.now is None:
+            plan.maybe_lifted.append(app.appid)
     if plan.now is None and "current.toml" in night.files:
         plan.perhaps |= {"lost", "refused", "lifts"}
 

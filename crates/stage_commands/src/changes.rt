@@ -94,9 +94,9 @@ where
     }
     match apps_halted(call, folder, action) {
         Ok(halted) => Ok(Found { servers, halted }),
-        Err(_) => {
+        Err(stop) => {
             drop(servers);
-            Err(Stop::Memory)
+            Err(stop)
         }
     }
 }

@@ -61,7 +61,8 @@ where
     }
 }
 
-/// The app of a halt in force that the next manifest may lift; none if the one in place is refused.
+/// The app of a halt in force that the next manifest may lift. If the one in place is refused, it
+/// offers no app.
 pub(crate) fn lifted_by<'a>(
     alloc: Global,
     steps: &'a [StagingStep],
@@ -74,6 +75,6 @@ pub(crate) fn lifted_by<'a>(
     match present {
         Present::Nothing => lifted_app(alloc, steps, &[], next),
         Present::Manifest(present) => lifted_app(alloc, steps, &present.sources.apps, next),
-        Present::Refused(_) => Ok(None),
+        Present::Refused(_) => lifted_app(alloc, steps, &[], next),
     }
 }

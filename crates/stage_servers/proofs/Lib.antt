@@ -1,4 +1,5 @@
 mod GoesOn
+mod Halted
 mod Ports
 mod Then
 mod Whole

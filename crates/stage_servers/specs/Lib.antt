@@ -1,5 +1,6 @@
 pub mod Apps
 pub mod Drift
+pub mod Halted
 pub mod Ports
 pub mod Replaced
 pub mod Served

@@ -1,129 +1,18 @@
 //! The end of a halt at the servers: each is sent `resume APPID` once it has loaded files that lift
-//! the halt, if it was surely in force, and the manifest then in place had the app.
+//! the halt, if the halt was in force by the records and the manifest then in place.
 
 // No contract says what a server does, or what is printed: bench/outside tests it.
 
-use crate::halted_app::halted_appid;
-use crate::options::StageCall;
+ghost use Rattle.std.specs.Prelude.{◌≡◌, map, option_copied, option_map, string_bytes};
+ghost use Rattle.stage_servers.specs.Halted as specs;
+
+use crate::halts_in_force::is_named;
 use crate::outcome::Lines;
 use crate::server_halts::push_done;
-use bounded_files::Disk;
-use load::{AppSources, CollectedManifest, collect_manifest};
 use operator::{RequestFault, ask_server};
 use operator_request::OperatorRequest;
 use printing::TextBuffer;
-use stage_folder::{RecordedSteps, StageFolder, recorded_steps};
-use stage_records::StageAction;
-use stage_rules::{is_in_force, is_release_halted, may_offer, surely_offers};
-use std::alloc::{AllocError, Global};
 use std::net::{Net, TcpStream};
-
-// The apps of a manifest whose recorded halts are surely in force: their files were read.
-fn halted_among(
-    alloc: Global,
-    recorded: &RecordedSteps,
-    apps: &[AppSources],
-) -> Result<Vec<String>, AllocError> {
-    let mut halted = Vec::new(alloc);
-    for app in apps {
-        let appid = app.entry.appid();
-        if is_in_force(&recorded.steps, apps, appid) && !may_offer(apps, appid) {
-            halted.push(String::from_str(alloc, appid)?)?;
-        }
-    }
-    Ok(halted)
-}
-
-// The records and the manifest in place, if they can be read.
-fn in_place<R, D, F>(
-    call: &StageCall<'_, R, D>,
-    folder: &F,
-) -> Option<(RecordedSteps, CollectedManifest)>
-where
-    R: AllocGlobal,
-    D: Disk,
-    F: StageFolder,
-{
-    let alloc = call.rt.alloc();
-    let Ok(recorded) = recorded_steps(alloc, folder) else {
-        return None;
-    };
-    match collect_manifest(alloc, call.disk, call.manifest) {
-        Ok(collected) => Some((recorded, collected)),
-        Err(_) => {
-            drop(recorded);
-            None
-        }
-    }
-}
-
-// These apps, and that of a resume, if its last halt is that of a release.
-fn with_resumed(
-    alloc: Global,
-    recorded: &RecordedSteps,
-    action: &StageAction<'_>,
-    apps: Vec<String>,
-) -> Result<Vec<String>, AllocError> {
-    let mut halted = apps;
-    if let StageAction::Resume { appid, .. } = *action
-        && is_release_halted(&recorded.steps, appid)
-    {
-        halted.push(String::from_str(alloc, appid)?)?;
-    }
-    Ok(halted)
-}
-
-/// The apps in place whose halts are surely in force, and may be lifted by this action; for a
-/// resume also its app, if its last halt is that of a release. None if the records or the manifest
-/// can't be read. A halt and a raise lift none.
-// open: which apps these are: bench/outside.
-pub fn apps_halted<R, D, F>(
-    call: &StageCall<'_, R, D>,
-    folder: &F,
-    action: &StageAction<'_>,
-) -> Result<Vec<String>, AllocError>
-where
-    R: AllocGlobal,
-    D: Disk,
-    F: StageFolder,
-{
-    let alloc = call.rt.alloc();
-    if halted_appid(action).is_some() || matches!(*action, StageAction::Raise { .. }) {
-        return Ok(Vec::new(alloc));
-    }
-    let Some((recorded, collected)) = in_place(call, folder) else {
-        return Ok(Vec::new(alloc));
-    };
-    let among = halted_among(alloc, &recorded, &collected.sources.apps);
-    drop(collected);
-    let halted = match among {
-        Ok(halted) => with_resumed(alloc, &recorded, action, halted),
-        Err(_) => Err(AllocError),
-    };
-    drop(recorded);
-    halted
-}
-
-/// Those of these apps that the manifest in place surely offers; none if it can't be read. An app
-/// whose file couldn't be read isn't among them.
-// open: which apps these are: bench/outside.
-pub fn apps_lifted<R, D>(call: &StageCall<'_, R, D>, before: Vec<String>) -> Vec<String>
-where
-    R: AllocGlobal,
-    D: Disk,
-{
-    let none = Vec::new(call.rt.alloc());
-    if before.is_empty() {
-        return none;
-    }
-    let Ok(collected) = collect_manifest(call.rt.alloc(), call.disk, call.manifest) else {
-        return none;
-    };
-    let mut lifted = before;
-    lifted.retain(|appid| surely_offers(&collected.sources.apps, appid.as_str()));
-    drop(collected);
-    lifted
-}
 
 // Has the server at a port offer an app again. Returns whether it does. An older server has halted
 // nothing without a load.
@@ -150,17 +39,15 @@ where
     }
 }
 
-// Whether an app is among those that a server halts, or these aren't known.
-fn may_halt(halted: Option<&[String]>, appid: &str) -> bool {
-    let Some(halted) = halted else {
-        return true;
-    };
-    for name in halted {
-        if name.as_str() == appid {
-            return true;
-        }
+// Whether a server may halt an app: it lists it, or isn't known to list any.
+fn may_halt(listed: Option<&[String]>, appid: &str) -> bool
+    ensures { result ≡ specs.may_halt
+        (option_map (map string_bytes) (option_copied listed.entry)) appid.now }
+{
+    match listed {
+        None => true,
+        Some(named) => is_named(named, appid),
     }
-    false
 }
 
 /// Has the server at a port offer these apps again, as their files say. Returns whether it does. It

@@ -9,8 +9,9 @@
 // left (`earlier_files.rt`). An action but a halt stops if a server serves neither what is in place
 // nor what the last step left (`drift.rt`), or at an edited file, if it looks at the files
 // (`edits.rt`). Once the files are changed, each server loads the manifest (`loads.rt`), and then
-// offers again those apps of the manifest before whose halts are lifted (`halt_ends.rt`). Its reply
-// is noted (`load_notes.rt`), by which a status knows what an older server serves (`servers.rt`).
+// offers those apps again (`halt_ends.rt`) whose recorded halts were in force before, and which
+// these files surely offer (`lifted_halts.rt`). Its reply is noted (`load_notes.rt`), by which a
+// status knows what an older server serves (`servers.rt`).
 //
 // A server's replies are its own. What is known of files is what `load` gathers.
 
@@ -25,7 +26,9 @@ mod edit_texts;
 mod edits;
 mod halt_ends;
 mod halted_app;
+mod halts_in_force;
 mod history;
+mod lifted_halts;
 mod load_notes;
 mod loads;
 mod log_digest;
@@ -52,9 +55,9 @@ pub use collected::{app_named, collected_at};
 pub use drift::{push_serves, stop_if_drifted};
 pub use earlier_files::{collected_as, collected_with};
 pub use edits::stop_if_edited;
-pub use halt_ends::{apps_halted, apps_lifted};
 pub use halted_app::halted_appid;
 pub use history::push_history;
+pub use lifted_halts::{apps_halted, apps_lifted};
 pub use loads::load_all;
 pub use options::{StageCall, StageOptions};
 pub use outcome::{Lines, StageOutcome, Stop};
