@@ -1,4 +1,5 @@
--- What a stop says of what has changed.
+-- What a stop says, and when it is a refusal.
+use Rattle.std.specs.Prelude.{◌≡◌, Bool, true}
 use Rattle.stage_servers.specs.declared.outcome.Stop.{Stop}
 use Rattle.stage_servers.specs.declared.outcome.Stop.TheVariants as stop
 
@@ -6,3 +7,8 @@ use Rattle.stage_servers.specs.declared.outcome.Stop.TheVariants as stop
 abbrev pub MayBeUnchanged : Stop → Type 0
 MayBeUnchanged (stop.Failed reason) = ⊥
 MayBeUnchanged other = Unit {0}
+
+-- if it is a refusal, then this is so
+abbrev pub IsRefusedOnlyIf : (so : Bool) → Stop → Type 0
+IsRefusedOnlyIf so (stop.Refused reason) = so ≡ true
+IsRefusedOnlyIf so other = Unit {0}

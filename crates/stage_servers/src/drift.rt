@@ -2,9 +2,11 @@
 
 // No contract says what is printed: bench/outside tests it.
 
-ghost use Rattle.std.specs.Prelude.{◌≡◌, OnOk, false};
+ghost use Rattle.std.specs.Prelude.{◌≡◌, IfErr, OnOk, false, true};
 ghost use Rattle.std.specs.List.{list_any};
+ghost use Rattle.std.specs.Result.{OnErr};
 ghost use Rattle.stage_servers.specs.Drift as specs;
+ghost use Rattle.stage_servers.specs.Stops.{IsRefusedOnlyIf};
 
 use crate::action_kinds::{is_back, is_halt};
 use crate::options::StageCall;
@@ -119,6 +121,7 @@ fn another_of(alloc: Global, server: &Surveyed) -> Stop {
 }
 
 // Stops because of one server.
+#[tactic(auto, using(crate::proofs::GoesOn::other_stops, crate::proofs::GoesOn::drift_stops))]
 fn stop_at<R, D>(
     call: &StageCall<'_, R, D>,
     server: &Surveyed,
@@ -127,29 +130,37 @@ fn stop_at<R, D>(
 ) -> Result<(), Stop>
 where
     R: AllocGlobal,
-    ensures { OnOk result
+    ensures passed { OnOk result
         (specs.stops_at call.now.options.now action.now server.now ≡ false) }
+    ensures refused { IfErr result (IsRefusedOnlyIf
+        (specs.stops_at call.now.options.now action.now server.now)) }
+    ensures halted { specs.is_halt action.now ≡ true → OnErr result ⊥ }
 {
     if is_halt(action) {
         return Ok(());
     }
     let (alloc, options) = (call.rt.alloc(), call.options);
     if is_strange(&server.serves) {
-        lines.go_on_if(options.other_server, another_of(alloc, server))?;
+        return match lines.go_on_if(options.other_server, another_of(alloc, server)) {
+            Ok(()) => Ok(()),
+            Err(stop) => Err(stop),
+        };
+    }
+    if is_expected(action, &server.serves) {
         return Ok(());
     }
-    if !is_expected(action, &server.serves) {
-        lines.go_on_if(options.anyway, drifted(alloc, server, call.manifest))?;
-        return Ok(());
+    match lines.go_on_if(options.anyway, drifted(alloc, server, call.manifest)) {
+        Ok(()) => Ok(()),
+        Err(stop) => Err(stop),
     }
-    Ok(())
 }
 
 /// Stops before anything is changed, if a server serves neither what is in place nor what the last
-/// step left: unless `--anyway` is given, or `--other-server` if it has another app. A halt doesn't
-/// stop. Nor does undoing a step that the server doesn't serve yet, as one that stopped in its
-/// middle.
-// open: that it doesn't stop otherwise, as at a halt: bench/outside.
+/// step left: unless `--anyway` is given, or `--other-server` if it has another app. A halt never
+/// stops, not even if memory runs out. Nor does undoing a step that the server doesn't serve yet,
+/// as one that stopped in its middle.
+// open: whether an allocation fails.
+#[tactic(auto, using(crate::proofs::GoesOn::some_stops))]
 pub fn stop_if_drifted<R, D>(
     call: &StageCall<'_, R, D>,
     servers: &[Surveyed],
@@ -158,12 +169,17 @@ pub fn stop_if_drifted<R, D>(
 ) -> Result<(), Stop>
 where
     R: AllocGlobal,
-    ensures { OnOk result
+    ensures passed { OnOk result
         (list_any (specs.stops_at call.now.options.now action.now) servers.now ≡ false) }
+    ensures refused { IfErr result (IsRefusedOnlyIf
+        (list_any (specs.stops_at call.now.options.now action.now) servers.now)) }
+    ensures halted { specs.is_halt action.now ≡ true → OnErr result ⊥ }
 {
     let mut left = servers;
     while let [server, others @ ..] = left {
-        stop_at(call, server, action, lines)?;
+        if let Err(stop) = stop_at(call, server, action, lines) {
+            return Err(stop);
+        }
         left = others;
     }
     Ok(())

@@ -2,9 +2,10 @@
 
 // No contract says what is printed: rows compare it.
 
-ghost use Rattle.std.specs.Prelude.{◌≡◌, All, OnOk, true};
+ghost use Rattle.std.specs.Prelude.{◌≡◌, All, OnOk, false, true};
 ghost use Rattle.std.specs.List.{list_any};
-ghost use Rattle.stage_servers.specs.Drift.{is_back};
+ghost use Rattle.std.specs.Result.{OnErr};
+ghost use Rattle.stage_servers.specs.Drift.{is_back, is_halt};
 ghost use Rattle.stage_servers.specs.Unedited as specs;
 ghost use Rattle.stage_servers.specs.Unedited.{AreFilesUnedited, AreUnedited};
 ghost use Rattle.stage_servers.specs.Unedited.{IsLastLeft, IsUnedited};
@@ -150,7 +151,7 @@ fn stop_if_some_edited<F: StageFolder>(
 /// looks if no server says what it serves, or if one serves what the last step left, and that isn't
 /// in place. A halt doesn't stop; nor does a put at such a server, since its rows begin with what
 /// is served. The files of the step that `back` is to undo are left to `undo`, which looks at them.
-// open: that it doesn't stop otherwise, as at a halt: bench/outside.
+// open: which record or file it stops at, and whether an allocation fails: rows.
 pub fn stop_if_edited<R, D, F>(
     call: &StageCall<'_, R, D>,
     folder: &F,
@@ -166,6 +167,8 @@ where
     ensures unedited { OnOk result
         (specs.compares_files call.now.options.now action.now servers.now ≡ true
         → IsUnedited (is_back action.now) (F.records folder.now) (F.files folder.now)) }
+    ensures halted { is_halt action.now ≡ true → OnErr result ⊥ }
+    ensures apart { specs.depends_on_files action.now servers.now ≡ false → OnErr result ⊥ }
 {
     if is_halt(action) || !depends_on_files(action, servers) {
         return Ok(());

@@ -1,6 +1,7 @@
 //! What is printed of a stage, and why one stops.
 
-ghost use Rattle.std.specs.Prelude.{◌≡◌, IfOk, OnOk, false, true};
+ghost use Rattle.std.specs.Prelude.{◌≡◌, IfErr, IfOk, OnOk, false, not, true};
+ghost use Rattle.stage_servers.specs.Stops.{IsRefusedOnlyIf};
 ghost use Rattle.stage_servers.specs.declared.outcome.Stop.TheVariants.{Memory};
 
 use printing::TextBuffer;
@@ -141,9 +142,9 @@ impl Lines {
     }
 
     /// Continues in spite of a refusal, if an option says so. Memory running out isn't passed over.
-    // open: that it continues then: rows.
     pub fn go_on_if(&mut self, may: bool, refusal: Stop) -> Result<(), Stop>
-        ensures { OnOk result (may ≡ true) }
+        ensures continued { OnOk result (may ≡ true) }
+        ensures refused { IfErr result (IsRefusedOnlyIf (not may)) }
     {
         if !may {
             return Err(refusal);
@@ -153,7 +154,8 @@ impl Lines {
                 self.push_reason(reason, "; it continues\n");
                 Ok(())
             }
-            other => Err(other),
+            Stop::Failed(reason) => Err(Stop::Failed(reason)),
+            Stop::Memory => Err(Stop::Memory),
         }
     }
 

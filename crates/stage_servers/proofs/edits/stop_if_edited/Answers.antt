@@ -8,4 +8,5 @@ returns-in-Ok-edited-clause-unedited g c = λ compared.
 
 pub returns-in-Err-edited-clause-read : goal.returns-in-Err-edited-clause-read
 returns-in-Err-edited-clause-read g c =
-    on_ok c.go_on_if.result (λ may reads. (c.in-Ok.recorded, c.in-Ok.ensures)) c.go_on_if.ensures
+    on_ok c.go_on_if.result (λ may reads. (c.in-Ok.recorded, c.in-Ok.ensures))
+    c.go_on_if.ensures.continued
