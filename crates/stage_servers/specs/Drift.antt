@@ -38,6 +38,12 @@ is_halt (action.Halt appid) = true
 is_halt (action.HaltRelease appid version) = true
 is_halt other = false
 
+-- the app that an action halts, or of which it halts a release
+abbrev pub halted_appid : StageAction → Option (List ℕ)
+halted_appid (action.Halt appid) = Some appid.now
+halted_appid (action.HaltRelease appid version) = Some appid.now
+halted_appid other = None
+
 abbrev pub is_back : StageAction → Bool
 is_back action.Back = true
 is_back other = false

@@ -24,7 +24,9 @@ pub fn refusal(text: TextBuffer) -> Stop
 
 /// A refusal in these words.
 // open: what the sentence is: bench/outside.
-pub fn refused(alloc: Global, sentence: &str) -> Stop {
+pub fn refused(alloc: Global, sentence: &str) -> Stop
+    ensures { MayBeUnchanged result }
+{
     let mut text = TextBuffer::new(alloc);
     text.push(sentence);
     refusal(text)
@@ -32,7 +34,9 @@ pub fn refused(alloc: Global, sentence: &str) -> Stop {
 
 /// A refusal of something with this name: what follows the name in the sentence.
 // open: what the sentence is: bench/outside.
-pub fn refusal_of(alloc: Global, name: &str, rest: &str) -> Stop {
+pub fn refusal_of(alloc: Global, name: &str, rest: &str) -> Stop
+    ensures { MayBeUnchanged result }
+{
     let mut text = TextBuffer::new(alloc);
     text.push_printed("", name, rest);
     refusal(text)
@@ -40,7 +44,9 @@ pub fn refusal_of(alloc: Global, name: &str, rest: &str) -> Stop {
 
 /// A manifest can't be gathered, or can't be judged.
 // open: what the sentence is: bench/outside.
-pub fn no_manifest(alloc: Global, path: &str, fault: PathFault) -> Stop {
+pub fn no_manifest(alloc: Global, path: &str, fault: PathFault) -> Stop
+    ensures { MayBeUnchanged result }
+{
     let mut text = TextBuffer::new(alloc);
     text.push_printed("", path, " is refused (");
     text.push_value(&fault);
