@@ -28,17 +28,14 @@ abbrev pub IsUnrefused : Present → Type 0
 IsUnrefused (present.Refused why) = ⊥
 IsUnrefused other = Unit {0}
 
--- the apps of the manifest in place; none if it is missing or refused
-abbrev pub present_apps : Present → List AppSources
-present_apps present.Nothing = []
-present_apps (present.Manifest manifest) = manifest.sources.apps.items
-present_apps (present.Refused why) = []
-
--- a name, if the next manifest may lift a halt in force; without one, it lifts none
+-- a name, if the next manifest may lift a halt in force; without one, it lifts none, unless the one
+-- in place is refused
 abbrev pub IsLiftedBy : List StagingStep → Present → (next : List AppSources)
     → Option (List ℕ) → Type 0
-IsLiftedBy steps there next lifted =
-    lifted ≡ None → LiftsNothing steps (present_apps there) next
+IsLiftedBy steps present.Nothing next lifted = lifted ≡ None → LiftsNothing steps [] next
+IsLiftedBy steps (present.Manifest manifest) next lifted =
+    lifted ≡ None → LiftsNothing steps manifest.sources.apps.items next
+IsLiftedBy steps (present.Refused why) next lifted = Unit {0}
 
 -- what these files have under a name, compared with these bytes
 abbrev pub IsContent : List ReplacedFile → (name bytes : List ℕ) → Content → Type 0

@@ -61,8 +61,7 @@ where
     }
 }
 
-/// The app of a halt in force that the next manifest may lift. If the one in place is refused, it
-/// offers no app.
+/// The app of a halt in force that the next manifest may lift; none if the one in place is refused.
 pub(crate) fn lifted_by<'a>(
     alloc: Global,
     steps: &'a [StagingStep],
@@ -75,6 +74,6 @@ pub(crate) fn lifted_by<'a>(
     match present {
         Present::Nothing => lifted_app(alloc, steps, &[], next),
         Present::Manifest(present) => lifted_app(alloc, steps, &present.sources.apps, next),
-        Present::Refused(_) => lifted_app(alloc, steps, &[], next),
+        Present::Refused(_) => Ok(None),
     }
 }

@@ -16,8 +16,8 @@ use Rattle.stage_folder.specs.Folders.{KnownRecords}
 use Rattle.stage_folder.specs.declared.records.RecordedSteps.{RecordedSteps}
 use Rattle.stage_records.specs.Steps.{StagingStep}
 use Rattle.stage_rules.specs.InForce.{halted_app, halted_apps, is_in_force, surely_offers}
-use Rattle.stage_servers.specs.Halted.{AreHaltedIn, AreInForce, HasHaltOf, HasOneMore, IsInPlace}
-use Rattle.stage_servers.specs.Halted.{apps_in_place, is_named}
+use Rattle.stage_servers.specs.Halted.{AreHaltedIn, AreInForce, AreInForceUnder, HasHaltOf}
+use Rattle.stage_servers.specs.Halted.{HasOneMore, IsInPlace, is_named}
 use Rattle.stage_servers.specs.Whole.{AreAllRead}
 
 -- ---- one more app
@@ -158,7 +158,7 @@ refused known current fault is = (fault, is)
 pub are_halted : (known : KnownFiles) (current : List ℕ) (records : KnownRecords)
     (recorded : RecordedSteps) (present : Option CollectedManifest) (named : List (List ℕ))
     → AreAllRead records recorded → IsInPlace known current present
-    → AreInForce recorded.steps.items (apps_in_place present) named
+    → AreInForceUnder recorded.steps.items present named
     → AreHaltedIn known current records named
 are_halted known current records recorded present named read is force = record {
   recorded = recorded;

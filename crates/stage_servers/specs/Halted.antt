@@ -25,12 +25,7 @@ abbrev pub may_halt : (listed : Option (List (List ℕ))) → (appid : List ℕ)
 may_halt None appid = true
 may_halt (Some listed) appid = is_named listed appid
 
--- the apps of the manifest in place; none if it is refused
-abbrev pub apps_in_place : Option CollectedManifest → List AppSources
-apps_in_place (Some manifest) = manifest.sources.apps.items
-apps_in_place None = []
-
--- the manifest in place, gathered with its files; none if it is refused
+-- the manifest in place, gathered with its files; none if it can't be gathered
 abbrev pub IsInPlace : KnownFiles → (current : List ℕ) → Option CollectedManifest → Type 0
 IsInPlace known current (Some manifest) = IsCollected known current manifest
 IsInPlace known current None = (fault : PathFault) × RefusesPath known current [] fault
@@ -42,6 +37,12 @@ abbrev pub AreInForce : List StagingStep → (current : List AppSources)
 AreInForce steps current named =
     (appid : List ℕ) → is_named named appid ≡ is_in_force steps current appid
 
+-- under the manifest in place; no app if that can't be gathered
+abbrev pub AreInForceUnder : List StagingStep → Option CollectedManifest
+    → (named : List (List ℕ)) → Type 0
+AreInForceUnder steps (Some manifest) named = AreInForce steps manifest.sources.apps.items named
+AreInForceUnder steps None named = named ≡ []
+
 -- by the recorded steps, of which each record is read, and the manifest in place
 pub record AreHaltedIn (known : KnownFiles) (current : List ℕ) (records : KnownRecords)
     (named : List (List ℕ)) : Type 0 where
@@ -49,9 +50,9 @@ pub record AreHaltedIn (known : KnownFiles) (current : List ℕ) (records : Know
   pub are_read : AreAllRead records recorded
   pub present : Option CollectedManifest
   pub is_present : IsInPlace known current present
-  pub in_force : AreInForce recorded.steps.items (apps_in_place present) named
+  pub in_force : AreInForceUnder recorded.steps.items present named
 
--- only with `--anyway`
+-- the same with `--anyway`, and no app without it
 abbrev pub AreHaltedIf : (anyway : Bool) → KnownFiles → (current : List ℕ) → KnownRecords
     → (named : List (List ℕ)) → Type 0
 AreHaltedIf true known current records named = AreHaltedIn known current records named

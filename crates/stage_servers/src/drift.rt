@@ -159,7 +159,7 @@ where
 /// step left: unless `--anyway` is given, or `--other-server` if it has another app. A halt never
 /// stops, not even if memory runs out. Nor does undoing a step that the server doesn't serve yet,
 /// as one that stopped in its middle.
-// open: whether an allocation fails.
+// open: whether an allocation fails, and that a stop is a refusal: rows.
 #[tactic(auto, using(crate::proofs::GoesOn::some_stops))]
 pub fn stop_if_drifted<R, D>(
     call: &StageCall<'_, R, D>,

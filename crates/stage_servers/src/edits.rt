@@ -151,7 +151,8 @@ fn stop_if_some_edited<F: StageFolder>(
 /// looks if no server says what it serves, or if one serves what the last step left, and that isn't
 /// in place. A halt doesn't stop; nor does a put at such a server, since its rows begin with what
 /// is served. The files of the step that `back` is to undo are left to `undo`, which looks at them.
-// open: which record or file it stops at, and whether an allocation fails: rows.
+// open: which record or file it stops at, that it doesn't stop otherwise, and whether an allocation
+// fails: rows.
 pub fn stop_if_edited<R, D, F>(
     call: &StageCall<'_, R, D>,
     folder: &F,

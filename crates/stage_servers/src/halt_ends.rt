@@ -1,5 +1,5 @@
-//! The end of a halt at the servers: each is sent `resume APPID` once it has loaded files that lift
-//! the halt, if the halt was in force by the records and the manifest then in place.
+//! The end of a halt at the servers: once a server has loaded files that lift the halts of apps, it
+//! is sent `resume APPID` for each of these that it may halt.
 
 // No contract says what a server does, or what is printed: bench/outside tests it.
 

@@ -3,7 +3,6 @@
 
 ghost use Rattle.std.specs.Prelude.{◌≡◌, ◌∷◌, [], IfOk, filter, map, string_bytes};
 ghost use Rattle.stage_rules.specs.InForce as force;
-ghost use Rattle.stage_servers.specs.Halted as specs;
 ghost use Rattle.stage_servers.specs.Halted.{AreHaltedIf, AreHaltedIn, IsInPlace, MayEndHalts};
 
 use crate::halts_in_force::{halts_in_force, push_copy};
@@ -17,7 +16,7 @@ use stage_records::StageAction;
 use stage_rules::surely_offers;
 use std::alloc::Global;
 
-// The manifest in place; none if it is refused.
+// The manifest in place; none if it can't be gathered.
 #[tactic(auto, using(crate::proofs::Halted::refused))]
 fn manifest_in_place<R, D>(call: &StageCall<'_, R, D>) -> Option<CollectedManifest>
 where
@@ -34,16 +33,8 @@ where
     }
 }
 
-fn apps_of(present: &Option<CollectedManifest>) -> &[AppSources]
-    ensures { result.now ≡ specs.apps_in_place present.now }
-{
-    match present {
-        Some(manifest) => &manifest.sources.apps,
-        None => &[],
-    }
-}
-
-// The apps whose recorded halts are in force under the manifest in place.
+// The apps whose recorded halts are in force under the manifest in place. None if that can't be
+// gathered, since then nobody knows which halts earlier puts have lifted.
 #[tactic(auto, using(crate::proofs::Halted::are_halted))]
 fn halted_in<R, D, F>(call: &StageCall<'_, R, D>, folder: &F) -> Result<Vec<String>, Stop>
 where
@@ -58,8 +49,11 @@ where
         Ok(recorded) => recorded,
         Err(stop) => return Err(stop),
     };
-    let present = manifest_in_place(call);
-    let named = halts_in_force(alloc, &recorded.steps, apps_of(&present));
+    let Some(present) = manifest_in_place(call) else {
+        drop(recorded);
+        return Ok(Vec::new(alloc));
+    };
+    let named = halts_in_force(alloc, &recorded.steps, &present.sources.apps);
     drop(present);
     drop(recorded);
     match named {
@@ -101,8 +95,9 @@ fn no_app(alloc: Global) -> Result<Vec<String>, Stop>
     Ok(Vec::new(alloc))
 }
 
-/// The halted apps that an action may have the servers offer again. It stops only if the records
-/// can't be read, or memory runs out.
+/// The apps that an action may have the servers offer again. It stops only if the records can't be
+/// read, or memory runs out.
+// open: that it stops only then, and that it names an app although memory runs out.
 pub fn apps_halted<R, D, F>(
     call: &StageCall<'_, R, D>,
     folder: &F,
@@ -141,7 +136,7 @@ fn offered_among(apps: &[AppSources], appids: Vec<String>) -> Vec<String>
 
 /// Those of these apps that the manifest in place surely offers; none if it can't be read. An app
 /// whose file couldn't be read isn't among them.
-// open: which manifest is in place then.
+// open: which apps these are: rows.
 pub fn apps_lifted<R, D>(call: &StageCall<'_, R, D>, before: Vec<String>) -> Vec<String>
 where
     R: AllocGlobal,
@@ -150,8 +145,11 @@ where
     if before.is_empty() {
         return before;
     }
-    let present = manifest_in_place(call);
-    let lifted = offered_among(apps_of(&present), before);
+    let Some(present) = manifest_in_place(call) else {
+        drop(before);
+        return Vec::new(call.rt.alloc());
+    };
+    let lifted = offered_among(&present.sources.apps, before);
     drop(present);
     lifted
 }

@@ -142,6 +142,7 @@ impl Lines {
     }
 
     /// Continues in spite of a refusal, if an option says so. Memory running out isn't passed over.
+    // open: that memory running out isn't; and that it continues otherwise, if memory suffices.
     pub fn go_on_if(&mut self, may: bool, refusal: Stop) -> Result<(), Stop>
         ensures continued { OnOk result (may ≡ true) }
         ensures refused { IfErr result (IsRefusedOnlyIf (not may)) }
