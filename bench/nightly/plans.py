@@ -245,11 +245,11 @@ def plan_put(night, call, plan):
             plan.maybe_lifted.append(app.appid)
             if not call.anyway:
                 (plan.stops if may and app.file == after.file else plan.perhaps).add("lifts")
-    # An app that isn't in place isn't offered, so its halt by a step is in force.
+    # An app that the manifest in place doesn't have isn't offered, so its halt by a step is in force.
     for app in load_of(call.source).apps:
         if plan.files[app.file] == NOTHING[app.kind] or not is_halted_by_a_step(night, app.appid):
             continue
-        if not present or not app_in(present, app.appid):
+        if present and not app_in(present, app.appid):
             plan.lifted.append(app.appid)
             if not call.anyway:
                 plan.stops.add("lifts")
