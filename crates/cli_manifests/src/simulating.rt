@@ -167,7 +167,7 @@ fn output_alone<R>(
 ) -> Result<SimulationOutput, AllocError>
 where
     R: AllocGlobal + Clock + Eprint,
-    ensures { IfOk result (specs.ShowsAlone client.old rules options.now) }
+    ensures { IfOk result (specs.ShowsAlone client.old options.now rules) }
 {
     let next = simulation_of(
         rt,
@@ -217,7 +217,7 @@ fn output_against<R>(
 ) -> Result<SimulationOutput, AllocError>
 where
     R: AllocGlobal + Clock + Eprint,
-    ensures { IfOk result (specs.ShowsAgainst client.old rules serving options.now) }
+    ensures { IfOk result (specs.ShowsAgainst client.old options.now rules serving) }
 {
     let mut progress = ProgressLines::new(rt);
     let clients = client_line(rt.alloc(), client)?;
