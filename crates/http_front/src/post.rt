@@ -15,7 +15,8 @@ use std::io::Read;
 
 /// Reads the one POST of a connection, and returns its body. At most 16,384 bytes are read until a
 /// head is whole, and a refused body isn't read beyond what came with its head. The reader may have
-/// returned more bytes than the request has; they are lost.
+/// returned more bytes than the request has; they are lost. This is the specification's call;
+/// servers take `PostBuffers`, whose memory is used again.
 // open: whether an allocation fails (P9). At which of these bytes a head is refused that no bytes
 // can complete: tests. Which of two faults is returned if `httparse` allows both. For a head with
 // over 64 lines these are P6 and one of P1, P7 and P8; if the input stops within the target, P1 and
