@@ -1,12 +1,11 @@
 -- Arrays that are declared alike: those with one name, and what fits them.
-use Rattle.std.proofs.Common.{◌≡◌, ◌∙◌, refl, ap, ap₂, sym, subst, arith}
-use Rattle.std.proofs.Common.{ℕ, suc, List, [], ◌∷◌, map}
-use Rattle.std.specs.Prelude.{Bool, true, false, cond, Contains, ◌&&◌, nat_le, Option, Some, None}
+use Rattle.std.proofs.Common.{◌≡◌, ◌∙◌, refl, ap, ap₂, sym}
+use Rattle.std.proofs.Common.{ℕ, List, [], ◌∷◌, map}
+use Rattle.std.specs.Prelude.{Bool, true, false, cond, ◌&&◌, nat_le, Option, Some, None}
 use Rattle.std.specs.Prelude.{if◌then◌else◌, option_map}
 use Rattle.std.specs.List.{list_all}
 use Rattle.std.specs.Str.{bytes_eq}
 use Rattle.std.proofs.lemmas.Option.{same_Some}
-use Rattle.std.proofs.lemmas.Slice.Eq.{bytes_eq-Decides}
 use Rattle.cells.specs.Arrays.{AppShape}
 use Rattle.cells.specs.declared.array.CellArray.{CellArray}
 use Rattle.rule_lang.specs.declared.condition.Step.{Step}
@@ -18,35 +17,6 @@ use Rattle.rule_lang.specs.declared.test.Test.TheVariants as test
 use Rattle.rule_lang.specs.Fits.{can_count, can_take, fits, statement_fits, step_fits, test_fits}
 use Rattle.rule_lang.specs.Shapes.{array_named}
 use Rattle.diff_space.specs.Machines.{declared}
-
--- ---- arrays with a name
-
-pub record IsNamed (name : List ℕ) (arrays : List CellArray) (a : CellArray) : Type 0 where
-  pub there : Contains arrays a
-  pub name_is : a.name ≡ name
-
-first_or_later : (name : List ℕ) (arrays : List CellArray) (a b : CellArray) (same : Bool)
-    → bytes_eq b.name name ≡ same
-    → (if same then Some b else array_named name arrays) ≡ Some a
-    → (array_named name arrays ≡ Some a → IsNamed name arrays a) → IsNamed name (b ∷ arrays) a
-first_or_later name arrays a b true same is later =
-    subst (λ (c : CellArray). IsNamed name (b ∷ arrays) c) (same_Some b a is) (record {
-      there = (0, omega arith, refl);
-      name_is = (bytes_eq-Decides b.name name).0 same;
-    })
-first_or_later name arrays a b false same is later =
-    let rest = later is in
-    let there = rest.there in
-    record {
-      there = (suc there.0, (let within = there.1 in omega (arith, within)), there.2);
-      name_is = rest.name_is;
-    }
-
-pub named : (name : List ℕ) (arrays : List CellArray) (a : CellArray)
-    → array_named name arrays ≡ Some a → IsNamed name arrays a
-named name [] a is = absurd cc
-named name (b ∷ arrays) a is =
-    first_or_later name arrays a b (bytes_eq b.name name) refl is (λ h. named name arrays a h)
 
 -- the other list has an array with the name that is declared alike
 pub record IsAlike (name : List ℕ) (a : CellArray) (others : List CellArray) : Type 0 where

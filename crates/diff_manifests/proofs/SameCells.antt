@@ -11,8 +11,9 @@ use Rattle.cells.specs.declared.event.CellOp.{CellOp}
 use Rattle.rule_lang.specs.Meaning.{Operates, Behaviour, Chooses}
 use Rattle.rule_lang.specs.Shapes.{array_named, cell_of, granted, quota_of}
 use Rattle.diff_space.specs.Machines.{State, chooses_in, declared, left_in, reply_after, takes_of}
+use Rattle.diff_rules.proofs.NamedArrays.{named}
 use Rattle.diff_manifests.proofs.CellsLeft.{left_is, one_array}
-use Rattle.diff_manifests.proofs.Declared.{IsAlike, alike_named, named}
+use Rattle.diff_manifests.proofs.Declared.{IsAlike, alike_named}
 
 module _ (g : State) (s t : AppShape) (shape : IsShape s) (other : IsShape t)
     (alike : map declared s.arrays ≡ map declared t.arrays) where
