@@ -8,7 +8,7 @@ ghost use Rattle.block_order.specs.Order.{IsOrderOf, Places};
 
 /// Law: a program in order behaves as the original one does. From each opening state and on the
 /// same replies, it makes the same events on counters, and the same choice or a trap.
-pub fn order_keeps_runs()
+pub fn runs_preserved()
     ensures { (places : Places) (p : Program) (q : Program) → IsOrderOf places p q → DoAlike p q }
 {}
 

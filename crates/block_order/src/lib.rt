@@ -16,5 +16,5 @@ mod ready;
 mod same;
 mod write;
 
-pub use laws::{order_has_no_cycle, order_keeps_runs};
+pub use laws::{order_has_no_cycle, runs_preserved};
 pub use order::ordered;

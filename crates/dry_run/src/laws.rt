@@ -16,7 +16,7 @@ pub fn sends_replies()
 {}
 
 /// Law: on counters with the same values there is one reply.
-pub fn has_one_reply()
+pub fn reply_unique()
     ensures { specs.HasOneReply }
 {}
 

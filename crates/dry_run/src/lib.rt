@@ -33,7 +33,7 @@ pub use dry_run_fault::DryRunFault;
 pub use explained_app::{AppReasons, app_reasons};
 pub use files::{OpenedFiles, open_files};
 pub use laws::{
-    explains_reply, has_one_reply, notes_sound, opens_the_same, refuses_alike, sends_replies,
+    explains_reply, notes_sound, opens_the_same, refuses_alike, reply_unique, sends_replies,
     sends_what_is_found,
 };
 pub use on_counters::{assigned_counters, reply_on_counters};

@@ -9,7 +9,7 @@ use halts::halts_sound;
 
 /// Law. Answered lines only append to what is published. Programs that know only a server's arrays
 /// still do so afterwards, and the counters were only read.
-pub fn loads_go_on<L: Loader>(loader: &L)
+pub fn loads_monotone<L: Loader>(loader: &L)
     ensures onwards { LinesGoOnwards (L.loads loader.now) }
     ensures only { LinesKeepToArrays (L.loads loader.now) }
     ensures reads { LinesOnlyRead (L.loads loader.now) }

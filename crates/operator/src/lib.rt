@@ -34,7 +34,7 @@ pub use client::{ask_server, stop_and_wait};
 pub use connection::{answer, write_reply};
 pub use control::Control;
 pub use last_load::LastLoad;
-pub use laws::{halts_hold, loads_go_on};
+pub use laws::{halts_hold, loads_monotone};
 pub use loader::Loader;
 pub use reply::{OperatorRefusal, OperatorReply};
 pub use server_reply::RequestFault;

@@ -18,7 +18,7 @@ use counter_store::CounterStore;
 use counters_file::KeptFile;
 use hot_swap::Watcher;
 use kept_cells::KeptCells;
-use operator::{Control, Loader, loads_go_on};
+use operator::{Control, Loader, loads_monotone};
 use restart_laws::servers_count_as_one;
 use server_counters::Counters;
 use shared_cells::{SharedCells, SharedPass, passes_gain_lists};
@@ -105,7 +105,7 @@ impl StaffedServer {
         threads_are_one_world();
         threads_grant_quotas();
         servers_count_as_one();
-        loads_go_on(loader);
+        loads_monotone(loader);
         let StaffedServer {
             ports,
             cells,

@@ -36,7 +36,7 @@ pub close_cells-ended-requires-clause-workers : goal.close_cells-ended-requires-
 close_cells-ended-requires-clause-workers g c =
     let back = c.in-Ok.ensures.back in
     let operator = back.operator in
-    let onwards = c.loads_go_on.ensures.onwards c.args.self.control back.last operator.lines
+    let onwards = c.loads_monotone.ensures.onwards c.args.self.control back.last operator.lines
     operator.reads operator.led in
     rw (c.into_cells.ensures, c.of-cells.ensures)
     (are_of_server _ c.answers_are_runs.ensures.onwards c.args.self.cells
@@ -65,7 +65,7 @@ returns-in-Ok-left-clause-world g c =
     let back = c.in-Ok.ensures.back in
     let operator = back.operator in
     let published = back.published in
-    let laws = c.loads_go_on.ensures in
+    let laws = c.loads_monotone.ensures in
     let onwards =
     laws.onwards server.control back.last operator.lines operator.reads operator.led in
     let answers = c.answers_are_runs.ensures in

@@ -1,5 +1,5 @@
 use Rattle.operator.proofs.Leading.{go_onwards, keep_to_arrays, only_read}
-use Rattle.operator.proofs.laws.loads_go_on.Goals as goal
+use Rattle.operator.proofs.laws.loads_monotone.Goals as goal
 
 pub returns-clause-onwards : goal.returns-clause-onwards
 returns-clause-onwards g c = go_onwards (g.L.Loader.loads c.args.loader.now)

@@ -1,5 +1,5 @@
 use Rattle.block_order.proofs.Runs.{do_alike}
-use Rattle.block_order.proofs.laws.order_keeps_runs.Goals as goal
+use Rattle.block_order.proofs.laws.runs_preserved.Goals as goal
 
 pub returns : goal.returns
 returns c = λ places p q order. do_alike places p q order
