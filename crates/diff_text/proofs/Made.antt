@@ -75,9 +75,9 @@ module _ (x : Scope) (ds : List Dimension) (lines : All (IsLine x) ds) where
   swapped true met unmet = refl
   swapped false met unmet = refl
 
-  negated_is_so : (c : Tree) (p q : List Table) → IsPartOf x ds c p → IsNegated ds p q
+  negated_sound : (c : Tree) (p q : List Table) → IsPartOf x ds c p → IsNegated ds p q
       → IsPartOf x ds (Negated c) q
-  negated_is_so c p q h n = record {
+  negated_sound c p q h n = record {
     tables_are = n.tables;
     means = λ s a g within met unmet.
         let place = place_of ds a g in
@@ -114,10 +114,10 @@ module _ (x : Scope) (ds : List Dimension) (lines : All (IsLine x) ds) where
       (i.means s a g within met unmet)
       ∙ either_so (all_hold p place) (all_hold q place) met unmet
 
-  joined_is_so : (is_and : Bool) (b c : Tree) (p q new : List Table) → IsPartOf x ds b p
+  joined_sound : (is_and : Bool) (b c : Tree) (p q new : List Table) → IsPartOf x ds b p
       → IsPartOf x ds c q → IsJoined ds (join_by is_and) p q new
       → IsPartOf x ds (tree_by is_and b c) new
-  joined_is_so is_and b c p q new h i j = record {
+  joined_sound is_and b c p q new h i j = record {
     tables_are = j.tables;
     means = λ s a g within met unmet.
         decides_so is_and b c p q h i s a g within met unmet
@@ -140,7 +140,7 @@ negated_made ds c p (Err e) h n = tt
 negated_made ds c p (Ok None) h n = λ x lines. tt
 negated_made ds c p (Ok (Some q)) h n = λ x lines.
     let is = h x lines in
-    negated_is_so x ds lines c p q is (n is.tables_are)
+    negated_sound x ds lines c p q is (n is.tables_are)
 
 pub joined_made : {E : Type 0} (is_and : Bool) (ds : List Dimension) (b c : Tree)
     (p q : List Table) (made : Result (Option (List Table)) E) → IsMade ds b (Some p)
@@ -152,7 +152,7 @@ joined_made is_and ds b c p q (Ok None) h i j = λ x lines. tt
 joined_made is_and ds b c p q (Ok (Some new)) h i j = λ x lines.
     let first = h x lines in
     let second = i x lines in
-    joined_is_so x ds lines is_and b c p q new first second
+    joined_sound x ds lines is_and b c p q new first second
     (j first.tables_are second.tables_are)
 
 pub whole_made : {S E : Type 0} (first last : S) (x : Scope) (ds : List Dimension)

@@ -76,14 +76,15 @@ module _ (ds : List Dimension) (place : List ℕ) (at : IsPlace ds place) where
       (table_is set t (All-head (IsTable ds) t ts all) both.0)
       (others ts both.1 (All-tail (IsTable ds) t ts all))
 
-  pub are_so : (sets : List SegmentSet) (tables : List Table) → are_tables_of ds sets tables ≡ true
+  pub are_true : (sets : List SegmentSet) (tables : List Table)
+      → are_tables_of ds sets tables ≡ true
       → All (IsTable ds) tables
       → all_hold tables place ≡ have_place (tested_sets ds sets) place
-  are_so [] [] h all = refl
-  are_so [] (t ∷ ts) h all = absurd (false≢true h)
-  are_so (set ∷ sets) tables h all =
+  are_true [] [] h all = refl
+  are_true [] (t ∷ ts) h all = absurd (false≢true h)
+  are_true (set ∷ sets) tables h all =
       one_set (is_grant (slice_get ds set.dimension)) set sets tables
-      (λ ts is are. are_so sets ts is are) h all
+      (λ ts is are. are_true sets ts is are) h all
 
 pub sets_meant : (x : Scope) (ds : List Dimension) → All (IsLine x) ds → (sets : List SegmentSet)
     (steps : List Step) (tables : List Table) → IsWhole x ds steps tables
@@ -91,7 +92,7 @@ pub sets_meant : (x : Scope) (ds : List Dimension) → All (IsLine x) ds → (se
 sets_meant x ds lines sets steps tables h is s a g within met unmet =
     h.means s a g within met unmet
     ∙ ap (λ (b : Bool). if b then met else unmet)
-    (are_so ds (place_of ds a g) (is_place x ds lines a g within) sets tables is h.tables_are)
+    (are_true ds (place_of ds a g) (is_place x ds lines a g within) sets tables is h.tables_are)
 
 -- ---- a text that reads back
 

@@ -26,7 +26,7 @@ impl Model for Table {
     ghost view = { λ t. record { dimension = t.dimension; holds = t.holds.items } };
 }
 
-fn is_so(compared: NumberComparison, number: u128) -> bool
+fn holds_at(compared: NumberComparison, number: u128) -> bool
     ensures { result ≡ meaning.allows compared.comparison (nat_cmp number compared.number) }
 {
     allows(compared.comparison, number.cmp(&compared.number))
@@ -43,7 +43,7 @@ fn truths(
     let mut holds = Vec::with_capacity(alloc, starts.len())?;
     let mut left = starts;
     while let [end, others @ ..] = left {
-        holds.push(is_so(compared, *end))?;
+        holds.push(holds_at(compared, *end))?;
         left = others;
     }
     Ok(holds)
@@ -99,7 +99,7 @@ pub(crate) fn negated_truths(alloc: Global, holds: &[bool]) -> Result<Vec<bool>,
     Ok(negated)
 }
 
-fn joined_so(is_and: bool, first: bool, second: bool) -> bool
+fn join_by(is_and: bool, first: bool, second: bool) -> bool
     ensures { result ≡ specs.join_by is_and first second }
 {
     if is_and {
@@ -126,7 +126,7 @@ pub(crate) fn joined_truths(
         let [other, rest @ ..] = right else {
             return Ok(joined);
         };
-        joined.push(joined_so(is_and, *one, *other))?;
+        joined.push(join_by(is_and, *one, *other))?;
         left = more;
         right = rest;
     }

@@ -10,7 +10,7 @@ use Rattle.rule_lang.specs.declared.rule.Statement.{Statement}
 use Rattle.rule_lang.specs.declared.rule.Statement.TheVariants.{When}
 use Rattle.why_choice.specs.Ending.{ending, ending_on}
 use Rattle.why_choice.specs.Reading.{Reading, read_after, read_one, read_steps, read_tree}
-use Rattle.why_choice.proofs.Truths.{test_is_so}
+use Rattle.why_choice.proofs.Truths.{test_sound}
 
 -- a behaviour continues by the truth of a reading
 abbrev Leads : (old : List ℕ) → Behaviour → Reading → (met unmet : Behaviour) → Type 0
@@ -40,30 +40,30 @@ either_lead text true counters second else_do met unmet leads = refl
 either_lead text false counters second else_do met unmet leads = leads
 
 module _ (a : Attributes) (s : AppShape) where
-  pub condition_is_so : (counters : List ℕ) (c : Tree) (met unmet : Behaviour)
+  pub condition_sound : (counters : List ℕ) (c : Tree) (met unmet : Behaviour)
       → Leads counters (decide a s c met unmet) (read_tree a s counters c) met unmet
-  condition_is_so counters (Leaf line t) met unmet = test_is_so a s counters t met unmet
-  condition_is_so counters (Negated c) met unmet =
+  condition_sound counters (Leaf line t) met unmet = test_sound a s counters t met unmet
+  condition_sound counters (Negated c) met unmet =
       let r = read_tree a s counters c in
-      condition_is_so counters c unmet met
+      condition_sound counters c unmet met
       ∙ ap (ending_on r.counters) (if_not r.holds unmet met)
-  condition_is_so counters (Both b c) met unmet =
+  condition_sound counters (Both b c) met unmet =
       let r = read_tree a s counters b in
-      condition_is_so counters b (decide a s c met unmet) unmet
+      condition_sound counters b (decide a s c met unmet) unmet
       ∙ both_lead r.text r.holds r.counters (read_tree a s r.counters c)
-      (decide a s c met unmet) met unmet (condition_is_so r.counters c met unmet)
-  condition_is_so counters (Either b c) met unmet =
+      (decide a s c met unmet) met unmet (condition_sound r.counters c met unmet)
+  condition_sound counters (Either b c) met unmet =
       let r = read_tree a s counters b in
-      condition_is_so counters b met (decide a s c met unmet)
+      condition_sound counters b met (decide a s c met unmet)
       ∙ either_lead r.text r.holds r.counters (read_tree a s r.counters c)
-      (decide a s c met unmet) met unmet (condition_is_so r.counters c met unmet)
+      (decide a s c met unmet) met unmet (condition_sound r.counters c met unmet)
 
-  one_is_so : (counters : List ℕ) (trees : Option (List Tree)) (met unmet : Behaviour)
+  one_sound : (counters : List ℕ) (trees : Option (List Tree)) (met unmet : Behaviour)
       → Leads counters (decide_one a s trees met unmet) (read_one a s counters trees) met unmet
-  one_is_so counters None met unmet = refl
-  one_is_so counters (Some []) met unmet = refl
-  one_is_so counters (Some (c ∷ [])) met unmet = condition_is_so counters c met unmet
-  one_is_so counters (Some (b ∷ c ∷ trees)) met unmet = refl
+  one_sound counters None met unmet = refl
+  one_sound counters (Some []) met unmet = refl
+  one_sound counters (Some (c ∷ [])) met unmet = condition_sound counters c met unmet
+  one_sound counters (Some (b ∷ c ∷ trees)) met unmet = refl
 
   chosen_or_not : (holds : Bool) (release : ℕ) (counters : List ℕ) (b : Behaviour)
       → ending_on counters (if holds then Chooses release else b)
@@ -71,12 +71,12 @@ module _ (a : Attributes) (s : AppShape) where
   chosen_or_not true release counters b = refl
   chosen_or_not false release counters b = refl
 
-  pub when_is_so : (counters : List ℕ) (steps : List Step) (release : ℕ) (rest : List Statement)
+  pub when_sound : (counters : List ℕ) (steps : List Step) (release : ℕ) (rest : List Statement)
       → (let r = read_steps a s counters steps in
       ending_on counters (behaviour a s (When steps release ∷ rest))
       ≡ (if r.holds then ending release r.counters
       else ending_on r.counters (behaviour a s rest)))
-  when_is_so counters steps release rest =
+  when_sound counters steps release rest =
       let r = read_steps a s counters steps in
-      one_is_so counters (trees_from [] steps) (Chooses release) (behaviour a s rest)
+      one_sound counters (trees_from [] steps) (Chooses release) (behaviour a s rest)
       ∙ chosen_or_not r.holds release r.counters (behaviour a s rest)

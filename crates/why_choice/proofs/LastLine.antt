@@ -15,7 +15,7 @@ use Rattle.why_choice.specs.Ending.{Ending, counters_after, ending, ending_on}
 use Rattle.why_choice.specs.Reading.{read_steps}
 use Rattle.why_choice.specs.RuleLines.{ChoosesByLastLine, by_its_end, by_this_when, after_when}
 use Rattle.why_choice.specs.RuleLines.{after_count, LastLineChooses, counted, rule_lines, when_line}
-use Rattle.why_choice.proofs.Conditions.{when_is_so}
+use Rattle.why_choice.proofs.Conditions.{when_sound}
 
 -- ---- the result of a trace on counters that reply by their values is the behaviour's result
 
@@ -81,7 +81,7 @@ module _ (a : Attributes) (s : AppShape) where
       let r = read_steps a s old steps in
       when_chooses old steps release rest r.holds
       (ending_on old (behaviour a s (When steps release ∷ rest)))
-      (ending_on r.counters (behaviour a s rest)) refl (when_is_so a s old steps release rest)
+      (ending_on r.counters (behaviour a s rest)) refl (when_sound a s old steps release rest)
       (rule_chooses rest r.counters)
 
 pub last_line_chooses : LastLineChooses

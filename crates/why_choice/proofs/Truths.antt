@@ -14,10 +14,10 @@ goes_by_value : (counters : List ℕ) (cell : Option ℕ) (next : ℕ → Behavi
 goes_by_value counters None next = refl
 goes_by_value counters (Some cell) next = refl
 
-pub test_is_so : (a : Attributes) (s : AppShape) (counters : List ℕ) (t : Test)
+pub test_sound : (a : Attributes) (s : AppShape) (counters : List ℕ) (t : Test)
     (met unmet : Behaviour) → ending_on counters (test_then a s t met unmet)
     ≡ ending_on (left_at counters (cell_used s t))
     (if holds_on a s counters t then met else unmet)
-test_is_so a s counters t met unmet =
+test_sound a s counters t met unmet =
     goes_by_value counters (cell_used s t)
     (λ reply. if test_holds a s reply t then met else unmet)

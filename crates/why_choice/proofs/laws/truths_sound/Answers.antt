@@ -1,5 +1,5 @@
-use Rattle.why_choice.proofs.Truths.{test_is_so}
+use Rattle.why_choice.proofs.Truths.{test_sound}
 use Rattle.why_choice.proofs.laws.truths_sound.Goals as goal
 
 pub returns : goal.returns
-returns c = test_is_so
+returns c = test_sound
