@@ -1,11 +1,10 @@
 -- Bytes have one reading: they have one tree, and a tree determines the result.
-use Rattle.std.proofs.Common.{◌≡◌, ◌≢◌, ℕ, List, Result, Ok, Err}
+use Rattle.std.proofs.Common.{◌≡◌, ℕ, List, Result, Ok, Err}
 use Rattle.std.proofs.Common.{refl, sym, ◌∙◌, ap, arith}
 use Rattle.std.proofs.lemmas.Option.{same_Some, none-some}
 use Rattle.toml.specs.Data.{Members}
 use Rattle.manifest.specs.declared.manifest_fault.ManifestFault.{ManifestFault}
 use Rattle.manifest.specs.declared.manifest_fault.ManifestFault.TheVariants.{Toml, Field, Duplicate}
-use Rattle.manifest.specs.declared.manifest_fault.ManifestFault.TheVariants.{Memory}
 use Rattle.manifest.specs.declared.manifest_fault.TomlFault.{TomlFault}
 use Rattle.manifest.specs.declared.manifest_fault.TomlFault.TheVariants.{TooLong, Text}
 use Rattle.manifest.specs.declared.manifest_fault.DuplicateName.{DuplicateName}
@@ -29,18 +28,16 @@ data Found (bytes : List ℕ) : Result Manifest ManifestFault → Type 0 where
   tree : (r : Result Manifest ManifestFault) (tree : Members) → IsTree bytes tree
       → r ≡ of_tables (tables_of tree) → Found bytes r
 
-found : (bytes : List ℕ) (r : Result Manifest ManifestFault) → ReadsManifest bytes r
-    → r ≢ Err Memory → Found bytes r
-found bytes (Ok manifest) h given =
+found : (bytes : List ℕ) (r : Result Manifest ManifestFault) → ReadsManifest bytes r → Found bytes r
+found bytes (Ok manifest) h =
     tree (Ok manifest) h.0.tree h.0.spelled
     (sym (ap of_tables h.0.tables_are ∙ ap of_names h.1))
-found bytes (Err (Toml fault)) h given = no_tree fault h
-found bytes (Err (Field schema_error)) h given =
+found bytes (Err (Toml fault)) h = no_tree fault h
+found bytes (Err (Field schema_error)) h =
     tree (Err (Field schema_error)) h.tree h.spelled (sym (ap of_tables h.tables_are))
-found bytes (Err (Duplicate duplicate)) h given =
+found bytes (Err (Duplicate duplicate)) h =
     tree (Err (Duplicate duplicate)) h.1.tree h.1.spelled
     (sym (ap of_tables h.1.tables_are ∙ ap of_names h.2))
-found bytes (Err Memory) h given = absurd (given refl)
 
 no_tree_of : (bytes : List ℕ) (fault : TomlFault) (t : Members) → HasNoTree bytes fault
     → IsTree bytes t → ⊥
@@ -63,5 +60,4 @@ same bytes (tree r t is read) (tree s u are others) =
     read ∙ ap (λ x. of_tables (tables_of x)) one ∙ sym others
 
 pub one_reading : (bytes : List ℕ) → HasOneManifest bytes
-one_reading bytes r s h k given other =
-    same bytes (found bytes r h given) (found bytes s k other)
+one_reading bytes r s h k = same bytes (found bytes r h) (found bytes s k)

@@ -6,7 +6,6 @@ use Rattle.toml.specs.Parse.{parse_document}
 use Rattle.cells.specs.Directory.{Declaration}
 use Rattle.manifest.specs.declared.manifest_fault.ManifestFault.{ManifestFault}
 use Rattle.manifest.specs.declared.manifest_fault.ManifestFault.TheVariants.{Toml, Field, Duplicate}
-use Rattle.manifest.specs.declared.manifest_fault.ManifestFault.TheVariants.{Memory}
 use Rattle.manifest.specs.declared.manifest_fault.TomlFault.{TomlFault}
 use Rattle.manifest.specs.declared.manifest_fault.TomlFault.TheVariants.{TooLong, Text}
 use Rattle.manifest.specs.declared.manifest_fault.DuplicateName.{DuplicateName}
@@ -78,11 +77,10 @@ pub record HasTables (bytes : List ℕ) (tables : Result Manifest SchemaError) :
   pub spelled : IsTree bytes tree
   pub tables_are : tables_of tree ≡ tables
 
--- the result of reading a manifest's bytes; out of memory is always allowed
+-- the result of reading a manifest's bytes
 abbrev pub ReadsManifest : List ℕ → Result Manifest ManifestFault → Type 0
 ReadsManifest bytes (Ok manifest) = HasTables bytes (Ok manifest) × (once manifest ≡ Ok manifest)
 ReadsManifest bytes (Err (Toml fault)) = HasNoTree bytes fault
 ReadsManifest bytes (Err (Field schema_error)) = HasTables bytes (Err schema_error)
 ReadsManifest bytes (Err (Duplicate duplicate)) =
     (manifest : Manifest) × HasTables bytes (Ok manifest) × (once manifest ≡ Err duplicate)
-ReadsManifest bytes (Err Memory) = Unit {0}

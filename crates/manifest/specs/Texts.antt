@@ -80,4 +80,3 @@ abbrev pub manifest_fault_text : ManifestFault → List ℕ
 manifest_fault_text (unread.Toml fault) = codes "M1 Toml"
 manifest_fault_text (unread.Field schema_error) = codes "M2 Field"
 manifest_fault_text (unread.Duplicate duplicate) = codes "M3 Duplicate"
-manifest_fault_text unread.Memory = codes "M8 Memory"

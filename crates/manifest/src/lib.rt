@@ -58,7 +58,7 @@ pub use manifest::{MOST_ARRAYS, Manifest, ManifestParts, read_tables};
 pub use manifest_fault::{DuplicateName, ManifestFault, TomlFault};
 pub use member::text_member;
 pub use quote::Quote;
-pub use read::{MOST_MANIFEST, parse_manifest, read_manifest};
+pub use read::{MOST_MANIFEST, read_manifest};
 pub use refused::{Parsed, RefusedManifest};
 pub use rows::{TableRow, items_between, read_item};
 pub use schema_error::{AppError, ArrayError, InList, PackageError, ReleaseError, SchemaError};

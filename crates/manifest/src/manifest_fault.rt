@@ -5,11 +5,10 @@ ghost use Rattle.manifest.specs.Texts.{duplicate_text, manifest_fault_text};
 
 use crate::quote::Quote;
 use crate::schema_error::SchemaError;
-use std::error::Error;
 use std::fmt;
 use std::fmt::{Display, Formatter, Write};
 
-/// What is wrong, with the printed numbers. `Display` gives only number and name; the variants have
+/// What is wrong with a manifest, M1 to M3. `Display` gives only number and name; the variants have
 /// the details.
 #[derive(Drop)]
 pub enum ManifestFault {
@@ -19,8 +18,6 @@ pub enum ManifestFault {
     Field(SchemaError),
     /// An array's name or an appid is a duplicate.
     Duplicate(DuplicateName),
-    /// An allocation failed.
-    Memory,
 }
 
 impl Display for ManifestFault {
@@ -31,18 +28,9 @@ impl Display for ManifestFault {
             ManifestFault::Toml(_) => f.write_str("M1 Toml"),
             ManifestFault::Field(_) => f.write_str("M2 Field"),
             ManifestFault::Duplicate(_) => f.write_str("M3 Duplicate"),
-            ManifestFault::Memory => f.write_str("M8 Memory"),
         }
     }
 }
-
-impl fmt::Debug for ManifestFault {
-    fn fmt<W: Write>(&self, f: &mut Formatter<W>) -> fmt::Result {
-        Display::fmt(self, f)
-    }
-}
-
-impl Error for ManifestFault {}
 
 /// Why bytes aren't a document.
 #[derive(Clone, Copy, Drop)]

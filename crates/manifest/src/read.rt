@@ -1,6 +1,6 @@
 //! From the bytes of a manifest to its data.
 
-ghost use Rattle.std.specs.Prelude.{◌≡◌, IfOk, IfErr, Ok};
+ghost use Rattle.std.specs.Prelude.{IfOk, IfErr, Ok};
 ghost use Rattle.toml.specs.View.{table_view};
 ghost use Rattle.manifest.specs.Manifest.{IsTree, ReadsManifest};
 ghost use Rattle.manifest.specs.Parsed.{IsNoManifest};
@@ -15,47 +15,35 @@ use toml::{Table, table_from_slice};
 /// The most bytes of a manifest.
 pub const MOST_MANIFEST: usize = 1048576;
 
-/// Reads a manifest, a TOML document of at most 1048576 bytes.
+/// Reads a manifest, a TOML document of at most 1048576 bytes. A refusal has what the bytes were
+/// parsed as.
 ///
 /// Its faults:
 ///
 /// - M1: there are more bytes, or they aren't a document.
 /// - M2: the first schema error, in the order of the sample in `lib.rt`.
 /// - M3: an array's name or an appid is a duplicate.
-/// - M8: an allocation failed.
-// open: whether an allocation fails (M8).
-pub fn read_manifest(alloc: Global, bytes: &[u8]) -> Result<Manifest, ManifestFault>
-    ensures { ReadsManifest bytes.now result }
-{
-    match parse_manifest(alloc, bytes) {
-        Ok(manifest) => Ok(manifest),
-        Err(refused) => Err(refused.fault),
-    }
-}
-
-/// Reads a manifest as `read_manifest` does. If it is refused, also returns what its bytes were
-/// parsed as.
-// open: whether an allocation fails (M8); what the error of M1 says.
-pub fn parse_manifest(alloc: Global, bytes: &[u8]) -> Result<Manifest, RefusedManifest>
+// open: whether an allocation fails; what the error of M1 says.
+pub fn read_manifest(alloc: Global, bytes: &[u8]) -> Result<Manifest, RefusedManifest>
     ensures manifest { IfOk result (λ manifest. ReadsManifest bytes.now (Ok manifest)) }
     ensures refused { IfErr result (IsNoManifest bytes.now) }
 {
     let table = parse_document(alloc, bytes)?;
     let manifest = match read_tables(alloc, &table) {
         Ok(manifest) => manifest,
-        Err(TableFault::SchemaError(schema_error)) => return Err(unfit(
-            ManifestFault::Field(schema_error),
-            table,
-        )),
-        Err(TableFault::Memory) => return Err(unparsed(ManifestFault::Memory)),
+        Err(TableFault::SchemaError(schema_error)) => return Err(RefusedManifest::Fault {
+            fault: ManifestFault::Field(schema_error),
+            parsed: Parsed::Document(table),
+        }),
+        Err(TableFault::Memory) => return Err(RefusedManifest::Memory),
     };
     match without_duplicates(alloc, manifest) {
         Ok(manifest) => Ok(manifest),
-        Err(TableFault::SchemaError(duplicate)) => Err(unfit(
-            ManifestFault::Duplicate(duplicate),
-            table,
-        )),
-        Err(TableFault::Memory) => Err(unparsed(ManifestFault::Memory)),
+        Err(TableFault::SchemaError(duplicate)) => Err(RefusedManifest::Fault {
+            fault: ManifestFault::Duplicate(duplicate),
+            parsed: Parsed::Document(table),
+        }),
+        Err(TableFault::Memory) => Err(RefusedManifest::Memory),
     }
 }
 
@@ -65,34 +53,17 @@ fn parse_document(alloc: Global, bytes: &[u8]) -> Result<Table, RefusedManifest>
     ensures err { IfErr result (IsNoManifest bytes.now) }
 {
     if bytes.len() > MOST_MANIFEST {
-        return Err(unparsed(ManifestFault::Toml(TomlFault::TooLong)));
+        return Err(RefusedManifest::Fault {
+            fault: ManifestFault::Toml(TomlFault::TooLong),
+            parsed: Parsed::Nothing,
+        });
     }
     match table_from_slice(alloc, bytes) {
         Ok(table) => Ok(table),
-        Err(error) if error.is_memory() => Err(unparsed(ManifestFault::Memory)),
-        Err(error) => Err(RefusedManifest {
+        Err(error) if error.is_memory() => Err(RefusedManifest::Memory),
+        Err(error) => Err(RefusedManifest::Fault {
             fault: ManifestFault::Toml(TomlFault::Text),
             parsed: Parsed::Error(error),
         }),
-    }
-}
-
-fn unfit(fault: ManifestFault, document: Table) -> RefusedManifest
-    ensures fault { result.fault ≡ fault }
-    ensures parsed { result.parsed ≡ Parsed.Document document }
-{
-    RefusedManifest {
-        fault,
-        parsed: Parsed::Document(document),
-    }
-}
-
-fn unparsed(fault: ManifestFault) -> RefusedManifest
-    ensures fault { result.fault ≡ fault }
-    ensures parsed { result.parsed ≡ Parsed.Nothing }
-{
-    RefusedManifest {
-        fault,
-        parsed: Parsed::Nothing,
     }
 }

@@ -4,20 +4,35 @@ use crate::manifest_fault::ManifestFault;
 use toml::Table;
 use toml::de::Error;
 
-/// Why bytes aren't a manifest, and the result of the crate `toml` for them.
+/// Why no manifest was read.
 #[derive(Drop)]
-pub struct RefusedManifest {
-    pub fault: ManifestFault,
-    pub parsed: Parsed,
+pub enum RefusedManifest {
+    /// The bytes aren't a manifest: what is wrong, and the result of the crate `toml` for them.
+    Fault {
+        fault: ManifestFault,
+        parsed: Parsed,
+    },
+    /// An allocation failed.
+    Memory,
 }
 
 /// The result of the crate `toml` for the bytes of a refused manifest.
-#[derive(Drop)]
 pub enum Parsed {
     /// The document. The fault is M2 or M3.
     Document(Table),
     /// Why the bytes aren't a document. The fault is M1.
     Error(Error),
-    /// More than 1048576 bytes (M1), or a failed allocation (M8).
+    /// There are more than 1048576 bytes (M1), or the fault is none of M1 to M3.
     Nothing,
+}
+
+// Not derived: a crate that drops one would prove the drop of each of its parts anew.
+impl Drop for Parsed {
+    fn drop(self) {
+        match self {
+            Parsed::Document(table) => drop(table),
+            Parsed::Error(error) => drop(error),
+            Parsed::Nothing => {}
+        }
+    }
 }
