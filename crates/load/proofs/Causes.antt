@@ -1,5 +1,5 @@
 -- A fault with its cause is a fault, and a cause for its arrays is one for its bytes.
-use Rattle.std.proofs.Common.{◌≡◌, ℕ, List, Option, Some, None, refl, sym, subst}
+use Rattle.std.proofs.Common.{◌≡◌, ℕ, List, Option, Some, None, refl, subst}
 use Rattle.std.specs.Prelude.{IfSome}
 use Rattle.std.specs.String.{string_bytes}
 use Rattle.std.specs.declared.alloc.Global.{Global}
@@ -21,20 +21,12 @@ pub refuses : (known : KnownFiles) (path : List ℕ) (old : List CellArray) (fau
 refuses known path old (Resource fault) cause told = told.0
 refuses known path old (Load fault) cause told = (told.0, told.1, told.2.fault_is)
 
-no_cause : (known : KnownFiles) (path : List ℕ) (old : List CellArray) (fault : PathFault)
+-- a fault without a cause
+pub no_cause : (known : KnownFiles) (path : List ℕ) (old : List CellArray) (fault : PathFault)
     → RefusesPath known path old fault → RefusesWithCause known path old fault None
 no_cause known path old (Resource fault) refused = (refused, refl)
 no_cause known path old (Load fault) refused =
     (refused.0, refused.1, record { fault_is = refused.2; cause_is = tt })
-
--- a fault without a cause
-pub untold : (known : KnownFiles) (path : List ℕ) (old : List CellArray) (fault told : PathFault)
-    (cause : Option (String Global)) → told ≡ fault → cause ≡ None
-    → RefusesPath known path old fault → RefusesWithCause known path old told cause
-untold known path old fault told cause fault_is cause_is refused =
-    subst (λ (c : Option (String Global)). RefusesWithCause known path old told c) (sym cause_is)
-    (subst (λ (f : PathFault). RefusesWithCause known path old f None) (sym fault_is)
-    (no_cause known path old fault refused))
 
 is_cause : (old : List CellArray) (bytes : List ℕ) (arrays : List Declaration) (fault : LoadFault)
     (text : List ℕ) → AreArraysWithFault bytes fault arrays → cause_of old arrays fault ≡ Some text

@@ -16,7 +16,6 @@ use Rattle.declarations.specs.OneWay.{ListsDeclareOneWay}
 use Rattle.manifest.specs.Manifest.{Manifest, ReadsManifest}
 use Rattle.manifest.specs.OneReading.{HasOneManifest}
 use Rattle.manifest.specs.declared.manifest_fault.ManifestFault.{ManifestFault}
-use Rattle.manifest.specs.declared.manifest_fault.ManifestFault.TheVariants as manifest
 use Rattle.ruleset.specs.Rules.{AppRule, Rules}
 use Rattle.load.specs.declared.load_fault.AppFault.{AppFault}
 use Rattle.load.specs.declared.load_fault.AppFault.TheVariants as app
@@ -28,10 +27,6 @@ use Rattle.load.specs.Apps.{AreAppsOf, RefusesApps, in_app}
 use Rattle.load.specs.Load.{Loads, IsLoadFault, of_bytes, of_arrays, of_apps, RefusesManifest}
 use Rattle.load.specs.Load.{RefusesArrays}
 use Rattle.load.proofs.OneApp.{IsRefusedFrom, refused_at, same_apps, same_refusal, not_both}
-
-abbrev fault_of : ManifestFault → LoadFault
-fault_of manifest.Memory = Memory
-fault_of fault = NoManifest fault
 
 abbrev named : List ℕ → List AppRule → Rules
 named server apps = record { server = server; apps = apps }
@@ -56,19 +51,14 @@ module _ (files : List ℕ → Option KnownFile) (old : List CellArray) (bytes :
 
   -- the outcome of its bytes
   data Staged : Result Rules LoadFault → List CellArray → Type 0 where
-    no_manifest : (e : ManifestFault) → ReadsManifest bytes (Err e) → e ≢ manifest.Memory
-        → Staged (Err (fault_of e)) old
+    no_manifest : (e : ManifestFault) → ReadsManifest bytes (Err e)
+        → Staged (Err (NoManifest e)) old
     read : {r : Result Rules LoadFault} {new : List CellArray} (m : Manifest)
         → ReadsManifest bytes (Ok m) → Declared m r new → Staged r new
 
   by_bytes : (fault : LoadFault) → RefusesManifest bytes fault → fault ≢ Memory
       → Staged (Err fault) old
-  by_bytes (NoManifest (manifest.Toml fault)) h known =
-      no_manifest (manifest.Toml fault) h (λ e. absurd cc)
-  by_bytes (NoManifest (manifest.Field schema_error)) h known =
-      no_manifest (manifest.Field schema_error) h (λ e. absurd cc)
-  by_bytes (NoManifest (manifest.Duplicate duplicate)) h known =
-      no_manifest (manifest.Duplicate duplicate) h (λ e. absurd cc)
+  by_bytes (NoManifest fault) h known = no_manifest fault h
   by_bytes Memory h known = absurd (known refl)
   by_bytes fault h known = absurd h
 
@@ -156,26 +146,20 @@ module _ (files : List ℕ → Option KnownFile) (old : List CellArray) (bytes :
     manifest_in (Ok m) other = m
     manifest_in (Err e) other = other
 
-    abbrev fault_in : Result Manifest ManifestFault → ManifestFault
-    fault_in (Ok m) = manifest.Memory
-    fault_in (Err e) = e
-
     same_staged : {r s : Result Rules LoadFault} {new last : List CellArray} → Staged r new
         → Staged s last → (r ≡ s) × (new ≡ last)
-    same_staged (no_manifest e h given) (no_manifest f k there) = (
-      ap (λ x. Err (fault_of (fault_in x))) (reading bytes (Err e) (Err f) h k
-          (λ x. given (ap fault_in x)) (λ x. there (ap fault_in x))),
-      refl,
-    )
-    same_staged (no_manifest e h given) (read m k more) =
-        let same = reading bytes (Err e) (Ok m) h k (λ x. given (ap fault_in x)) (λ x. absurd cc) in
+    same_staged (no_manifest e h) (no_manifest f k) =
+        let same = reading bytes (Err e) (Err f) h k in
+        (cc, refl)
+    same_staged (no_manifest e h) (read m k more) =
+        let same = reading bytes (Err e) (Ok m) h k in
         absurd cc
-    same_staged (read m h more) (no_manifest e k given) =
-        let same = reading bytes (Ok m) (Err e) h k (λ x. absurd cc) (λ x. given (ap fault_in x)) in
+    same_staged (read m h more) (no_manifest e k) =
+        let same = reading bytes (Ok m) (Err e) h k in
         absurd cc
     same_staged {s = s} {last = last} (read m h more) (read other k rest) =
         let same : m ≡ other = ap (λ (x : Result Manifest ManifestFault). manifest_in x other)
-        (reading bytes (Ok m) (Ok other) h k (λ x. absurd cc) (λ x. absurd cc)) in
+        (reading bytes (Ok m) (Ok other) h k) in
         same_declared m more (subst (λ (x : Manifest). Declared x s last) (sym same) rest)
 
     pub same_load : (r s : Result Rules LoadFault) (new last : List CellArray)

@@ -7,7 +7,6 @@ use Rattle.cells.specs.declared.array.CellArray.{CellArray}
 use Rattle.cells.specs.declared.cells_fault.CellsFault.TheVariants as cells
 use Rattle.declarations.specs.Order.{AreDeclared, IsRefusedArray}
 use Rattle.manifest.specs.Manifest.{Manifest, ReadsManifest}
-use Rattle.manifest.specs.declared.manifest_fault.ManifestFault.TheVariants as manifest
 use Rattle.ruleset.specs.Rules.{Rules}
 use Rattle.load.specs.declared.load_fault.LoadFault.{LoadFault}
 use Rattle.load.specs.declared.load_fault.LoadFault.TheVariants.{Manifest as NoManifest, Cells}
@@ -17,7 +16,6 @@ use Rattle.load.specs.Apps.{AreAppsOf, RefusesApps}
 
 -- why bytes aren't a manifest; running out of memory is always allowed, here and below
 abbrev pub RefusesManifest : List ℕ → LoadFault → Type 0
-RefusesManifest bytes (NoManifest manifest.Memory) = ⊥
 RefusesManifest bytes (NoManifest fault) = ReadsManifest bytes (Err fault)
 RefusesManifest bytes Memory = Unit {0}
 RefusesManifest bytes fault = ⊥

@@ -9,8 +9,6 @@ use Rattle.declarations.specs.Order.{AreDeclared}
 use Rattle.manifest.specs.App.{AppEntry}
 use Rattle.manifest.specs.Manifest.{Manifest, ReadsManifest}
 use Rattle.manifest.specs.Parsed.{IsParsed}
-use Rattle.manifest.specs.declared.manifest_fault.ManifestFault.{ManifestFault}
-use Rattle.manifest.specs.declared.manifest_fault.ManifestFault.TheVariants as unread
 use Rattle.manifest.specs.declared.refused.Parsed.{Parsed}
 use Rattle.manifest.specs.declared.refused.Parsed.TheVariants.{Nothing}
 use Rattle.load.specs.declared.load_fault.LoadFault.{LoadFault}
@@ -85,11 +83,6 @@ AreArraysWithFault bytes (NoManifest fault) arrays = arrays ≡ []
 AreArraysWithFault bytes (Cells number fault) arrays = AreArraysOf bytes arrays
 AreArraysWithFault bytes Memory arrays = (arrays ≡ []) ⊎ AreArraysOf bytes arrays
 AreArraysWithFault bytes fault arrays = ⊥
-
--- the fault of a manifest, as the fault of its load
-abbrev pub of_manifest : ManifestFault → LoadFault
-of_manifest unread.Memory = Memory
-of_manifest fault = NoManifest fault
 
 -- what the bytes were parsed as, if they aren't a manifest; nothing for any other fault
 abbrev pub IsParsedWithFault : List ℕ → LoadFault → Parsed → Type 0

@@ -71,7 +71,7 @@ pub fn load_with_digest<D: Disk>(
 {
     let bytes = match manifest_bytes(disk, path) {
         Ok(bytes) => bytes,
-        Err(fault) => return Err(LoadRefusal::of(fault)),
+        Err(fault) => return Err(LoadRefusal { fault, cause: None }),
     };
     let mut files = FolderFiles::in_folder_of(alloc, disk, path);
     match load_bytes(alloc, &bytes, &mut files, directory) {

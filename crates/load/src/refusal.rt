@@ -1,7 +1,7 @@
 //! Why a load is refused, with the cause that a log prints, and why a manifest and its files
 //! aren't gathered.
 
-ghost use Rattle.std.specs.Prelude.{◌≡◌, Some, None};
+ghost use Rattle.std.specs.Prelude.{◌≡◌, Some};
 ghost use Rattle.load.specs.Texts.{path_fault_text};
 
 use crate::load_fault::{LoadFault, PathFault};
@@ -18,16 +18,6 @@ pub struct LoadRefusal {
     /// the duplicate name; or an array as it exists, and as the manifest has it. None for other
     /// faults, or if an allocation for it failed.
     pub cause: Option<String>,
-}
-
-impl LoadRefusal {
-    // A fault without a cause.
-    pub(crate) fn of(fault: PathFault) -> LoadRefusal
-        ensures fault { result.fault ≡ fault }
-        ensures cause { result.cause ≡ None }
-    {
-        LoadRefusal { fault, cause: None }
-    }
 }
 
 impl fmt::Display for LoadRefusal {

@@ -4,12 +4,10 @@ ghost use Rattle.std.specs.Prelude.{◌≡◌, ◌≢◌, ◌^◌, ◌+◌, ◌-
 ghost use Rattle.std.specs.Prelude.{All, IsTrue, IfOk, IfErr, Ok};
 ghost use mathlib.Core.List.{IsPrefix};
 ghost use Rattle.cells.specs.declared.array.CellArray.{CellArray};
-ghost use Rattle.load.specs.Sources.{AreAppSources, AreArraysOf, AreReadInTurn, AreSources};
-ghost use Rattle.load.specs.Sources.{IsSourcesRefusal, failures_in};
-ghost use Rattle.load.specs.Sources as specs;
+ghost use Rattle.load.specs.Sources.{AreAppSources, AreArraysWithFault, AreReadInTurn};
+ghost use Rattle.load.specs.Sources.{AreSources, IsSourcesRefusal, failures_in};
 ghost use Rattle.load.specs.Kept.{CountsFile};
 ghost use Rattle.manifest.specs.Manifest.{ReadsManifest};
-ghost use Rattle.manifest.specs.Parsed.{IsNoManifest};
 
 use crate::arrays::declare_arrays;
 use crate::files::Files;
@@ -20,9 +18,7 @@ use attrs::Text;
 use bounded_files::KeptBytes;
 use cells::{ArrayNo, Directory, Shape};
 use declarations::ArrayDeclaration;
-use manifest::{
-    AppEntry, Manifest, ManifestFault, ManifestParts, Parsed, RefusedManifest, parse_manifest,
-};
+use manifest::{AppEntry, Manifest, ManifestParts, Parsed, RefusedManifest, read_manifest};
 use std::alloc::{AllocError, Global};
 
 /// How many bytes files that are too long may have in all, 64 MiB. Above that no further file is
@@ -147,43 +143,21 @@ fn parse(alloc: Global, bytes: &[u8]) -> Result<Manifest, SourcesRefusal>
     ensures manifest { IfOk result (λ manifest. ReadsManifest bytes.now (Ok manifest)) }
     ensures fault { IfErr result (λ u. (old : List CellArray) → IsSourcesRefusal old bytes.now u) }
 {
-    match parse_manifest(alloc, bytes) {
+    match read_manifest(alloc, bytes) {
         Ok(manifest) => Ok(manifest),
-        Err(refused) => Err(unparsed(alloc, refused)),
-    }
-}
-
-fn unparsed(alloc: Global, refused: RefusedManifest) -> SourcesRefusal
-    ensures { (old : List CellArray) (bytes : List ℕ) → IsNoManifest bytes refused
-        → IsSourcesRefusal old bytes result }
-{
-    let RefusedManifest { fault, parsed } = refused;
-    SourcesRefusal {
-        fault: of_manifest(fault),
-        arrays: Vec::new(alloc),
-        parsed,
-    }
-}
-
-fn of_manifest(fault: ManifestFault) -> LoadFault
-    ensures { result ≡ specs.of_manifest fault }
-{
-    match fault {
-        ManifestFault::Toml(fault) => LoadFault::Manifest(ManifestFault::Toml(fault)),
-        ManifestFault::Field(schema_error) => LoadFault::Manifest(ManifestFault::Field(
-            schema_error,
-        )),
-        ManifestFault::Duplicate(duplicate) => LoadFault::Manifest(ManifestFault::Duplicate(
-            duplicate,
-        )),
-        ManifestFault::Memory => LoadFault::Memory,
+        Err(RefusedManifest::Fault { fault, parsed }) => Err(SourcesRefusal {
+            fault: LoadFault::Manifest(fault),
+            arrays: Vec::new(alloc),
+            parsed,
+        }),
+        Err(RefusedManifest::Memory) => Err(out_of_memory(Vec::new(alloc))),
     }
 }
 
 fn out_of_memory(arrays: Vec<ArrayDeclaration>) -> SourcesRefusal
     ensures fault { result.fault ≡ LoadFault.Memory }
     ensures refused_sources { (old : List CellArray) (bytes : List ℕ)
-        → AreArraysOf bytes arrays.items
+        → AreArraysWithFault bytes LoadFault.Memory arrays.items
         → IsSourcesRefusal old bytes result }
 {
     SourcesRefusal {

@@ -1,14 +1,13 @@
 use Rattle.std.proofs.Common.{rules, ◌≡◌}
 use Rattle.load.specs.Folder.{files_in_folder}
 use Rattle.load.specs.Made.{IsMadeOver}
-use Rattle.load.proofs.Causes.{untold}
+use Rattle.load.proofs.Causes.{no_cause}
 use Rattle.load.proofs.Making.{from_path}
 use Rattle.load.proofs.path.load_with_digest.Goals as goal
 
 pub returns-in-Err-clause-loads : goal.returns-in-Err-clause-loads
 returns-in-Err-clause-loads g c =
-    untold (g.D.Disk.known c.args.disk.now) c.args.path.now c.args.directory.now c.in-Err.fault
-    c.of.result.fault c.of.result.cause c.of.ensures.fault c.of.ensures.cause
+    no_cause (g.D.Disk.known c.args.disk.now) c.args.path.now c.args.directory.now c.in-Err.fault
     (c.in-Err.ensures.fault c.args.directory.now)
 
 pub returns-in-Ok-load_bytes-clause-loads : goal.returns-in-Ok-load_bytes-clause-loads

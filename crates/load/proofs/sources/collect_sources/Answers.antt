@@ -1,4 +1,4 @@
-use Rattle.std.proofs.Common.{rules}
+use Rattle.std.proofs.Common.{inr, rules}
 use Rattle.load.specs.Load.{RefusesArrays, of_arrays}
 use Rattle.load.proofs.Early.{known_arrays, nothing_parsed}
 use Rattle.load.proofs.sources.collect_sources.Goals as goal
@@ -9,7 +9,7 @@ returns-in-Err-clause-fault g c = c.in-Err.ensures.fault c.args.directory.now
 pub returns-in_default-clause-fault : goal.returns-in_default-clause-fault
 returns-in_default-clause-fault g c =
     c.out_of_memory.ensures.refused_sources c.args.directory.now c.args.manifest.now
-    (c.in-Ok.manifest, c.in-Ok.ensures.manifest, c.into_parts-server.ensures.arrays)
+    (inr (c.in-Ok.manifest, c.in-Ok.ensures.manifest, c.into_parts-server.ensures.arrays))
 
 pub returns-in-Err-declare_arrays-clause-fault : goal.returns-in-Err-declare_arrays-clause-fault
 returns-in-Err-declare_arrays-clause-fault g c =
@@ -26,4 +26,4 @@ pub returns-in-Err-collect_apps-clause-fault : goal.returns-in-Err-collect_apps-
 returns-in-Err-collect_apps-clause-fault g c =
     c.out_of_memory-in-Err-collect_apps.ensures.refused_sources c.args.directory.now
     c.args.manifest.now
-    (c.in-Ok.manifest, c.in-Ok.ensures.manifest, c.into_parts-server.ensures.arrays)
+    (inr (c.in-Ok.manifest, c.in-Ok.ensures.manifest, c.into_parts-server.ensures.arrays))
