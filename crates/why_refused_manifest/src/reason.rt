@@ -70,7 +70,6 @@ fn push_manifest_reason(
             text.push_value(duplicate);
             text.push(" occurs twice\n");
         }
-        ManifestFault::Memory => {}
     }
 }
 

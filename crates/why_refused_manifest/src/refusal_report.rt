@@ -122,7 +122,6 @@ fn further_faults(
         LoadFault::Manifest(ManifestFault::Field(_)) => other_schema_errors(alloc, parsed),
         LoadFault::Manifest(ManifestFault::Duplicate(_)) => other_duplicates(alloc, parsed),
         LoadFault::Manifest(ManifestFault::Toml(_)) => Some(Vec::new(alloc)),
-        LoadFault::Manifest(ManifestFault::Memory) => Some(Vec::new(alloc)),
         LoadFault::Cells { array, .. } => faults_after_array(alloc, arrays, *array),
         LoadFault::Memory => Some(Vec::new(alloc)),
     }
