@@ -1,6 +1,6 @@
 -- Bytes with and without a JSON value.
 use Rattle.std.proofs.Common.{◌≡◌, ◌∙◌, ℕ, List, Bool, true, false}
-use Rattle.std.proofs.Common.{Option, Some, None, if◌then◌else◌, refl, ap}
+use Rattle.std.proofs.Common.{Option, None, if◌then◌else◌, refl, ap}
 use Rattle.std.specs.Str.{IsUtf8, is_utf8}
 use Rattle.std.proofs.lemmas.Str.{is_utf8-from_IsUtf8, IsUtf8-from_is_utf8}
 use Rattle.serde_json.specs.Data.{Data}

@@ -2,6 +2,7 @@ pub mod Borrowed
 pub mod Bytes
 pub mod Counted
 pub mod Loops
+pub mod Names
 pub mod Numbers
 pub mod Pieces
 pub mod Read

@@ -1,8 +1,8 @@
 -- The number that a token of JSON writes.
 use Rattle.std.proofs.Common.{◌≡◌, ℕ, ℤ, List, drop, get_or, ◌==◌, Bool, true, false, refl}
-use Rattle.std.proofs.Common.{Option, Some, None, option_and_then, Float, if◌then◌else◌}
+use Rattle.std.proofs.Common.{Some, None, option_and_then, Float, if◌then◌else◌}
 use Rattle.fast_float.specs.Text.{Parts, scan}
-use Rattle.serde_json.specs.Data.{Num, float, negative}
+use Rattle.serde_json.specs.Data.{float, negative}
 use Rattle.serde_json.specs.Find.{as_u64}
 use Rattle.serde_json.specs.Read.{number_of, number_from}
 

@@ -1,6 +1,6 @@
 -- What counting a name some times more changes in a table: its row goes up, it gets a row, or it is
 -- one of the others. Then lists of names, one after another.
-use Rattle.std.proofs.Common.{◌≡◌, ℕ, ◌+◌, ◌^◌, ◌-◌, ◌<◌, ◌≤◌, List, [], ◌∷◌, ◌++◌, refl}
+use Rattle.std.proofs.Common.{◌≡◌, ℕ, ◌+◌, ◌^◌, ◌-◌, ◌<◌, ◌≤◌, List, [], ◌++◌, refl}
 use Rattle.std.proofs.Common.{sym, ap, ◌∙◌}
 use Rattle.std.proofs.Common.{Bool, true, false, cond, Option, Some, None, is_none, is_some, min}
 use Rattle.std.proofs.Common.{arith}

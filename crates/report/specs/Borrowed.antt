@@ -1,5 +1,5 @@
 -- The data of a JSON value whose texts are borrowed, and which such values have data at all.
-use Rattle.std.specs.Prelude.{List, ℕ, Bool, true, ◌&&◌, Option, Some, None, is_some}
+use Rattle.std.specs.Prelude.{Bool, true, ◌&&◌, Option, Some, None, is_some}
 use Rattle.json.specs.Json as json
 use Rattle.serde_json.specs.Data.{Data, null, boolean, number, string, array, object, Num}
 use Rattle.serde_json.specs.Data.{Items, no_items, item, Members, no_members, put}

@@ -1,5 +1,5 @@
-//! The JSON value of some bytes, whose texts are borrowed from them, so that no text of a line is
-//! copied.
+//! The JSON value of some bytes. Its texts are borrowed from them; those with escapes are copied
+//! into a scratch.
 
 ghost use Rattle.std.specs.Prelude.{◌≡◌, IfOk, option_map};
 ghost use Rattle.json.specs.Value.{value_view};
@@ -16,6 +16,7 @@ const MAX_DEPTH: usize = 127;
 
 /// The JSON value of these bytes, by the rules of `json_value`. The scratch has the texts with
 /// escapes.
+// open: whether an allocation fails, its one error.
 #[tactic(auto, using(crate::proofs::Bytes::utf8_value, crate::proofs::Bytes::no_utf8))]
 pub fn read_borrowed<'a>(
     alloc: Global,

@@ -47,7 +47,7 @@ fn members_are_in_range<'a>(members: &Vec<(&'a str, Value<'a>)>) -> bool
     true
 }
 
-/// The number of at least 0 that a token of JSON writes, if it is a whole one of 64 bits.
+/// The number of 64 bits that a token of JSON writes only in digits: none for `1.0`, `1e2`, `-0`.
 pub(crate) fn whole_number(text: &str) -> Option<u64>
     ensures { result ≡ option_and_then as_u64 (number_of text.now) }
 {

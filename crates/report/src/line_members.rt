@@ -35,7 +35,7 @@ pub fn text_at<'a>(value: &Value<'a>, name: &str) -> Option<&'a str>
     }
 }
 
-/// The member of this name, if it is a number of at least 0.
+/// The member of this name, if it is a number of 64 bits that is written only in digits.
 #[tactic(auto, using(crate::proofs::Borrowed::number_found, crate::proofs::Borrowed::no_number))]
 pub fn number_at(value: &Value<'_>, name: &str) -> Option<u64>
     ensures { result ≡ specs.number_in name.now (data_of (value_view value.now)) }

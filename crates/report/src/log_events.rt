@@ -29,7 +29,7 @@ pub fn text_in<'a>(value: &'a Value, name: &str) -> Option<&'a str>
     }
 }
 
-/// The member of this name, if it is a number of at least 0.
+/// The member of this name, if it is a number of 64 bits that is written only in digits.
 pub fn number_in(value: &Value, name: &str) -> Option<u64>
     ensures { result ≡ specs.number_in name.now (view value.now) }
 {

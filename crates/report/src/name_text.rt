@@ -1,20 +1,27 @@
 //! How a name is written: one or more texts, with tabs between them. Control characters in a text
 //! are escaped, so no text contains a tab.
 
-ghost use Rattle.std.specs.Prelude.{◌≡◌, IfOk};
+ghost use Rattle.std.specs.Prelude.{◌≡◌, ◌++◌, false, IfOk, OnOk};
 ghost use Rattle.std.specs.Option.{option_copied};
 ghost use Rattle.std.specs.String.{string_bytes};
+ghost use Rattle.printing.specs.Laws.{PrintsNoControl};
+ghost use Rattle.printing.specs.Printed.{has_control as specs_has_control, printed};
 ghost use Rattle.report.specs.Names as specs;
 
-use printing::Printed;
+use printing::{Printed, has_control, no_control_is_printed};
 use std::alloc::{AllocError, Global};
 use std::fmt::Write;
+
+/// The room for a usual name.
+const USUAL_BYTES: usize = 64;
 
 /// A name of one text.
 pub(crate) fn one(alloc: Global, text: &str) -> Result<String, AllocError>
     ensures { IfOk result (λ s. string_bytes s ≡ specs.one text.now) }
 {
-    Printed(text).to_string(alloc)
+    let mut name = String::with_capacity(alloc, USUAL_BYTES)?;
+    push_printed(&mut name, text)?;
+    Ok(name)
 }
 
 /// A name of two texts.
@@ -22,8 +29,8 @@ pub(crate) fn two(alloc: Global, a: &str, b: &str) -> Result<String, AllocError>
     ensures { IfOk result (λ s. string_bytes s ≡ specs.two a.now b.now) }
 {
     let mut name = one(alloc, a)?;
-    let last = Printed(b);
-    write!(name, "\t{last}")?;
+    name.push_str("\t")?;
+    push_printed(&mut name, b)?;
     Ok(name)
 }
 
@@ -32,9 +39,33 @@ pub(crate) fn three(alloc: Global, a: &str, b: &str, c: &str) -> Result<String, 
     ensures { IfOk result (λ s. string_bytes s ≡ specs.three a.now b.now c.now) }
 {
     let mut name = two(alloc, a, b)?;
-    let last = Printed(c);
-    write!(name, "\t{last}")?;
+    name.push_str("\t")?;
+    push_printed(&mut name, c)?;
     Ok(name)
+}
+
+// Appends a text, printed. Few texts have a character to escape; the others are copied whole.
+fn push_printed(name: &mut String, text: &str) -> Result<(), AllocError>
+    ensures { OnOk result
+        (string_bytes name.new ≡ string_bytes name.old ++ printed text.now) }
+{
+    if has_control(text) {
+        let printed = Printed(text);
+        write!(name, "{printed}")?;
+        return Ok(());
+    }
+    no_control_is_printed();
+    push_plain(name, text)
+}
+
+#[tactic(auto, using(crate::proofs::Names::plain_is_printed))]
+fn push_plain(name: &mut String, text: &str) -> Result<(), AllocError>
+    requires law { PrintsNoControl }
+    requires none { specs_has_control text.now ≡ false }
+    ensures { OnOk result
+        (string_bytes name.new ≡ string_bytes name.old ++ printed text.now) }
+{
+    name.push_str(text)
 }
 
 /// The kind of count, the app, the version, and the minute or hour.

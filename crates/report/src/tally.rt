@@ -1,7 +1,7 @@
 //! A table that counts names. It has at most `limit` rows. Names that get no row are counted
 //! together, so memory is bounded for any log.
 
-ghost use Rattle.std.specs.Prelude.{◌≡◌, ◌<◌, [], ◌∷◌, None, OnOk, replicate};
+ghost use Rattle.std.specs.Prelude.{◌≡◌, ◌<◌, [], ◌∷◌, true, false, None, OnOk, replicate};
 ghost use Rattle.std.specs.String.{string_bytes};
 ghost use Rattle.std.specs.BTreeMap.{get_by_text};
 ghost use Rattle.report.specs.Tallies.{IsTally, Notes, Sets, with_others};
@@ -87,9 +87,26 @@ impl Tally {
         if times == 0 {
             return Ok(());
         }
-        match self.count_of(name.as_str()) {
-            Some(count) => self.set(name, count.saturating_add(times)),
-            None => self.note_new(name, times),
+        if self.raise(name.as_str(), times) {
+            return Ok(());
+        }
+        self.note_new(name, times)
+    }
+
+    // Counts a name that has a row, and returns whether it has one.
+    fn raise(&mut self, name: &str, times: u64) -> bool
+        requires some { 0 < times }
+        ensures counted { result ≡ true
+            → Notes self.old self.new (replicate times name.now) }
+        ensures unchanged { result ≡ false → self.new ≡ self.old }
+        ensures new { result ≡ false → get_by_text self.old.rows name.now ≡ None }
+    {
+        match self.rows.get_mut(name) {
+            Some(count) => {
+                *count = count.saturating_add(times);
+                true
+            }
+            None => false,
         }
     }
 

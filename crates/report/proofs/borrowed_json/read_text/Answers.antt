@@ -1,6 +1,4 @@
-use Rattle.std.proofs.Common.{◌≡◌, [], Some, sym, true, false, arith, rules}
-use Rattle.json.specs.Json as json
-use Rattle.json.specs.Lex.{tokens}
+use Rattle.std.proofs.Common.{◌≡◌, [], sym, true, false, arith, rules}
 use Rattle.json.specs.Value.{value_view}
 use Rattle.report.specs.Borrowed.{in_range}
 use Rattle.report.proofs.Borrowed.{text_out_of_range, text_read}
