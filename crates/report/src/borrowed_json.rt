@@ -55,3 +55,21 @@ fn read_text<'a>(
         Err(_) => Ok(None),
     }
 }
+
+/// Memory for the texts with escapes of a line, and of one event in it at a time. The next line
+/// uses it again.
+#[derive(Drop)]
+pub(crate) struct LineMemory {
+    pub(crate) line: Scratch,
+    pub(crate) event: Scratch,
+}
+
+impl LineMemory {
+    /// Memory that no line has used.
+    pub(crate) fn new(alloc: Global) -> LineMemory {
+        LineMemory {
+            line: Scratch::new(alloc),
+            event: Scratch::new(alloc),
+        }
+    }
+}

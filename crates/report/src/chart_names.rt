@@ -9,12 +9,14 @@ use crate::log_line::LogLine;
 use crate::note::{note_apps, note_ends};
 use crate::question::{AppQuestion, ChartQuestion, EventQuestion};
 use crate::tally::{Tally, note_nothing};
+use json::Scratch;
 use moments::minute_in;
 use std::alloc::{AllocError, Global};
 
 /// Counts a line for a chart.
 pub(crate) fn note_chart(
     alloc: Global,
+    scratch: &mut Scratch,
     tally: &mut Tally,
     question: ChartQuestion,
     line: &LogLine<'_>,
@@ -25,15 +27,22 @@ pub(crate) fn note_chart(
     match question {
         ChartQuestion::Versions => note_three(
             alloc,
+            scratch,
             tally,
             AppQuestion::UpdateCheckBy,
             AppQuestion::Offered,
             EventQuestion::FailedTo,
             line,
         ),
-        ChartQuestion::ByMinute => note_moment(alloc, tally, minute_of_line(line), line),
+        ChartQuestion::ByMinute => note_moment(alloc, scratch, tally, minute_of_line(line), line),
         ChartQuestion::ByHour => {
-            note_moment(alloc, tally, hour_of_minute(minute_of_line(line)), line)
+            note_moment(
+                alloc,
+                scratch,
+                tally,
+                hour_of_minute(minute_of_line(line)),
+                line,
+            )
         }
     }
 }
@@ -59,6 +68,7 @@ fn hour_of_minute(minute: Option<u64>) -> Option<u64>
 
 fn note_moment(
     alloc: Global,
+    scratch: &mut Scratch,
     tally: &mut Tally,
     moment: Option<u64>,
     line: &LogLine<'_>,
@@ -67,13 +77,14 @@ fn note_moment(
         (Notes tally.old tally.new (specs.names_in_moment line.now moment)) }
 {
     match moment {
-        Some(moment) => note_at(alloc, tally, moment, line),
+        Some(moment) => note_at(alloc, scratch, tally, moment, line),
         None => note_nothing(tally),
     }
 }
 
 fn note_at(
     alloc: Global,
+    scratch: &mut Scratch,
     tally: &mut Tally,
     moment: u64,
     line: &LogLine<'_>,
@@ -83,18 +94,20 @@ fn note_at(
 {
     note_three(
         alloc,
+        scratch,
         tally,
         AppQuestion::UpdateCheckAt(moment),
         AppQuestion::OfferedAt(moment),
         EventQuestion::FailedAt(moment),
         line,
     )?;
-    note_ends(alloc, tally, EventQuestion::EndedAt(moment), line)?;
+    note_ends(alloc, scratch, tally, EventQuestion::EndedAt(moment), line)?;
     Ok(())
 }
 
 fn note_three(
     alloc: Global,
+    scratch: &mut Scratch,
     tally: &mut Tally,
     asks: AppQuestion,
     offers: AppQuestion,
@@ -106,6 +119,6 @@ fn note_three(
 {
     note_apps(alloc, tally, asks, line)?;
     note_apps(alloc, tally, offers, line)?;
-    note_ends(alloc, tally, failures, line)?;
+    note_ends(alloc, scratch, tally, failures, line)?;
     Ok(())
 }

@@ -10,6 +10,7 @@ ghost use Rattle.report.specs.Reading.{CountsLines};
 ghost use Rattle.report.specs.Members.{line_members};
 ghost use Rattle.report.specs.Windows.{event_in, event_in_window, event_of, if_within};
 
+use crate::borrowed_json::LineMemory;
 use crate::log_events::{is_event, is_within, value_in};
 use crate::log_line::LogLine;
 use crate::note::note_questions;
@@ -71,19 +72,19 @@ impl Report {
     pub(crate) fn count_line(
         &mut self,
         alloc: Global,
-        scratch: &mut Scratch,
+        memory: &mut LineMemory,
         window: &Window<'_>,
         line: &[u8],
     ) -> Result<(), AllocError>
         ensures { OnOk result (CountsLines window.now (line.now ∷ []) self.old self.new) }
     {
-        self.add_line(alloc, scratch, window, line)
+        self.add_line(alloc, memory, window, line)
     }
 
     fn add_line(
         &mut self,
         alloc: Global,
-        scratch: &mut Scratch,
+        memory: &mut LineMemory,
         window: &Window<'_>,
         line: &[u8],
     ) -> Result<(), AllocError>
@@ -91,9 +92,9 @@ impl Report {
             (specs.AddsLine (event_in line.now) (event_in_window window.now line.now) self.old
             self.new) }
     {
-        match value_in(alloc, scratch, line)? {
+        match value_in(alloc, &mut memory.line, line)? {
             Some(value) => {
-                let counted = self.add_value(alloc, window, &value);
+                let counted = self.add_value(alloc, &mut memory.event, window, &value);
                 drop(value);
                 counted
             }
@@ -115,6 +116,7 @@ impl Report {
     fn add_value(
         &mut self,
         alloc: Global,
+        scratch: &mut Scratch,
         window: &Window<'_>,
         value: &Value<'_>,
     ) -> Result<(), AllocError>
@@ -123,7 +125,7 @@ impl Report {
             self.old self.new) }
     {
         if is_event(value) {
-            return self.add_event(alloc, window, value);
+            return self.add_event(alloc, scratch, window, value);
         }
         self.add_foreign();
         Ok(())
@@ -133,6 +135,7 @@ impl Report {
     fn add_event(
         &mut self,
         alloc: Global,
+        scratch: &mut Scratch,
         window: &Window<'_>,
         event: &Value<'_>,
     ) -> Result<(), AllocError>
@@ -143,7 +146,7 @@ impl Report {
     {
         if is_within(window, event) {
             let line = LogLine::of(alloc, event)?;
-            let counted = self.add(alloc, &line);
+            let counted = self.add(alloc, scratch, &line);
             drop(line);
             return counted;
         }
@@ -151,7 +154,12 @@ impl Report {
     }
 
     #[tactic(auto, using(crate::proofs::Counted::stays))]
-    fn add(&mut self, alloc: Global, line: &LogLine<'_>) -> Result<(), AllocError>
+    fn add(
+        &mut self,
+        alloc: Global,
+        scratch: &mut Scratch,
+        line: &LogLine<'_>,
+    ) -> Result<(), AllocError>
         ensures { OnOk result (specs.AddsLine (Some line.now) (Some line.now) self.old self.new) }
     {
         let lost = lost_in(line);
@@ -163,8 +171,7 @@ impl Report {
         self.left_out = raised(self.left_out, left_out);
         self.offers_left_out = raised(self.offers_left_out, offers);
         self.longest_wait = self.longest_wait.max(longest_wait);
-        let drawn = self.drawn;
-        note_questions(alloc, drawn, &mut self.tallies, line)?;
+        note_questions(alloc, scratch, self.drawn, &mut self.tallies, line)?;
         Ok(())
     }
 }

@@ -11,6 +11,7 @@ mod borrowed_json;
 mod chart_names;
 mod counters;
 mod counting;
+mod event_names;
 mod events;
 mod exposition;
 mod json_range;

@@ -7,10 +7,10 @@ ghost use Rattle.std.specs.Io.KnownBytes.{Consumes, IsAtEnd};
 ghost use Rattle.report.specs.Lines.{grown, grown_by, lines_after};
 ghost use Rattle.report.specs.Reading.{CountsLines, ReadsBlock, ReadsLog};
 
+use crate::borrowed_json::LineMemory;
 use crate::counting::Report;
 use crate::log_events::LINE_LIMIT;
 use crate::window::Window;
-use json::Scratch;
 use memchr::memchr;
 use std::alloc::{AllocError, Global};
 use std::io::{self, Error, ErrorKind, Read};
@@ -60,7 +60,7 @@ fn count_by_blocks<R: Read, O: LogOnlooker>(
     requires { 0 < length block.old }
     ensures { OnOk result (ReadsLog window.now (R.remaining reader.old) report.old report.new) }
 {
-    let mut scratch = Scratch::new(alloc);
+    let mut memory = LineMemory::new(alloc);
     let mut begun = Vec::new(alloc);
     let mut bytes = 0;
     for _ in 0..u64::MAX {
@@ -69,7 +69,7 @@ fn count_by_blocks<R: Read, O: LogOnlooker>(
             Some(count) => {
                 count_block(
                     alloc,
-                    &mut scratch,
+                    &mut memory,
                     window,
                     report,
                     &mut begun,
@@ -79,7 +79,7 @@ fn count_by_blocks<R: Read, O: LogOnlooker>(
                 onlooker.read(bytes);
             }
             None => {
-                count_last(alloc, &mut scratch, window, report, begun.as_slice())?;
+                count_last(alloc, &mut memory, window, report, begun.as_slice())?;
                 return Ok(());
             }
         }
@@ -107,7 +107,7 @@ fn read_some<R: Read>(reader: &mut R, block: &mut [u8]) -> io::Result<Option<usi
 // Counts the lines that end in a block, and keeps the rest.
 fn count_block(
     alloc: Global,
-    scratch: &mut Scratch,
+    memory: &mut LineMemory,
     window: &Window<'_>,
     report: &mut Report,
     begun: &mut Vec<u8>,
@@ -118,7 +118,7 @@ fn count_block(
 {
     let mut left = block;
     while !left.is_empty() {
-        let read = count_piece(alloc, scratch, window, report, begun, left)?;
+        let read = count_piece(alloc, memory, window, report, begun, left)?;
         left = &left[read..];
     }
     Ok(())
@@ -129,7 +129,7 @@ fn count_block(
 #[tactic(auto, using(crate::proofs::Pieces::piece_ends, crate::proofs::Pieces::all_goes_on))]
 fn count_piece(
     alloc: Global,
-    scratch: &mut Scratch,
+    memory: &mut LineMemory,
     window: &Window<'_>,
     report: &mut Report,
     begun: &mut Vec<u8>,
@@ -144,7 +144,7 @@ fn count_piece(
     match memchr(b'\n', bytes) {
         Some(at) => {
             append(begun, &bytes[..at])?;
-            end_line(alloc, scratch, window, report, begun)?;
+            end_line(alloc, memory, window, report, begun)?;
             Ok(at + 1)
         }
         None => {
@@ -157,7 +157,7 @@ fn count_piece(
 #[tactic(auto, using(crate::proofs::Read::line_ends))]
 fn end_line(
     alloc: Global,
-    scratch: &mut Scratch,
+    memory: &mut LineMemory,
     window: &Window<'_>,
     report: &mut Report,
     begun: &mut Vec<u8>,
@@ -165,7 +165,7 @@ fn end_line(
     ensures { OnOk result (ReadsBlock window.now (10 ∷ [])
         begun.old.items report.old begun.new.items report.new) }
 {
-    report.count_line(alloc, scratch, window, begun.as_slice())?;
+    report.count_line(alloc, memory, window, begun.as_slice())?;
     begun.clear();
     Ok(())
 }
@@ -208,7 +208,7 @@ fn append_byte(begun: &mut Vec<u8>, byte: u8) -> Result<(), AllocError>
 #[tactic(auto, using(crate::proofs::Read::last_line))]
 fn count_last(
     alloc: Global,
-    scratch: &mut Scratch,
+    memory: &mut LineMemory,
     window: &Window<'_>,
     report: &mut Report,
     begun: &[u8],
@@ -219,5 +219,5 @@ fn count_last(
     if begun.is_empty() {
         return Ok(());
     }
-    report.count_line(alloc, scratch, window, begun)
+    report.count_line(alloc, memory, window, begun)
 }

@@ -16,11 +16,13 @@ use crate::log_line::{LogApp, LogLine};
 use crate::question::{AppQuestion, EventQuestion, LineQuestion, QUESTIONS, Question};
 use crate::responses::note_responses;
 use crate::tally::{Tally, note_nothing};
+use json::Scratch;
 use std::alloc::{AllocError, Global};
 
-/// Counts a line in the table of each question.
+/// Counts a line in the table of each question. The scratch has the texts of one event at a time.
 pub(crate) fn note_questions(
     alloc: Global,
+    scratch: &mut Scratch,
     drawn: bool,
     tallies: &mut Vec<Tally>,
     line: &LogLine<'_>,
@@ -28,11 +30,19 @@ pub(crate) fn note_questions(
     ensures { OnOk result (NotesEach (λ question. names_of drawn question line.now)
         QUESTIONS tallies.old.items tallies.new.items) }
 {
-    note_each(alloc, drawn, &QUESTIONS, tallies.as_mut_slice(), line)
+    note_each(
+        alloc,
+        scratch,
+        drawn,
+        &QUESTIONS,
+        tallies.as_mut_slice(),
+        line,
+    )
 }
 
 fn note_each(
     alloc: Global,
+    scratch: &mut Scratch,
     drawn: bool,
     questions: &[Question],
     tallies: &mut [Tally],
@@ -46,7 +56,7 @@ fn note_each(
         let [question, rest @ ..] = left else {
             return Ok(());
         };
-        note_question(alloc, drawn, *question, &mut tallies[place], line)?;
+        note_question(alloc, scratch, drawn, *question, &mut tallies[place], line)?;
         left = rest;
     }
     Ok(())
@@ -54,6 +64,7 @@ fn note_each(
 
 fn note_question(
     alloc: Global,
+    scratch: &mut Scratch,
     drawn: bool,
     question: Question,
     tally: &mut Tally,
@@ -64,11 +75,11 @@ fn note_question(
     match question {
         Question::Line(question) => note_line(alloc, tally, question, line),
         Question::App(question) => note_apps(alloc, tally, question, line),
-        Question::Event(question) => note_ends(alloc, tally, question, line),
+        Question::Event(question) => note_ends(alloc, scratch, tally, question, line),
         Question::Responses => note_responses(alloc, tally, line),
         Question::Chart(question) => {
             if drawn {
-                note_chart(alloc, tally, question, line)
+                note_chart(alloc, scratch, tally, question, line)
             } else {
                 note_nothing(tally)
             }
@@ -108,13 +119,14 @@ pub(crate) fn note_apps(
 /// Counts the ends of installs in the line.
 pub(crate) fn note_ends(
     alloc: Global,
+    scratch: &mut Scratch,
     tally: &mut Tally,
     question: EventQuestion,
     line: &LogLine<'_>,
 ) -> Result<(), AllocError>
     ensures { OnOk result (Notes tally.old tally.new (event_names question line.now)) }
 {
-    note_events(alloc, tally, question, line.apps.as_slice())
+    note_events(alloc, scratch, tally, question, line.apps.as_slice())
 }
 
 fn note_each_app(

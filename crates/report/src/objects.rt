@@ -24,15 +24,16 @@ pub(crate) struct ObjectReader {
 }
 
 impl ObjectReader {
-    /// At the start of a text.
-    pub(crate) fn new(alloc: Global) -> ObjectReader
-        ensures { specs.json_place result ≡ specs.json_start }
+    /// At the start of a text of this length, for which there is room.
+    pub(crate) fn new(alloc: Global, length: usize) -> Result<ObjectReader, AllocError>
+        ensures { IfOk result (λ reader. specs.json_place reader ≡ specs.json_start) }
     {
-        ObjectReader {
+        let object = Vec::with_capacity(alloc, length)?;
+        Ok(ObjectReader {
             part: JsonPart::Plain,
             depth: 0,
-            object: Vec::new(alloc),
-        }
+            object,
+        })
     }
 
     /// Reads a byte, and returns whether it ends an outermost object.
