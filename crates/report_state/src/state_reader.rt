@@ -48,7 +48,8 @@ pub(crate) fn fill(
     };
     tally.set_others(number_at(table, "others").unwrap_or(0));
     if let Some(rows) = list_at(table, "rows") {
-        for row in rows {
+        // Names ascend, and a table is searched from its first name on, so the last row goes first.
+        for row in rows.iter().rev() {
             fill_row(alloc, row, tally)?;
         }
     }
