@@ -1,8 +1,9 @@
-//! The files of a folder as an earlier step left them, by the records.
+//! The files of a folder as earlier steps left them, by the records.
 
-// Steps that are undone left nothing. Of the others, those up to a place are done, and those after
-// it aren't done yet: a file has the bytes that the first of the latter found, or else those that
-// the last of the former left. Nothing else is known to have changed.
+// Of the steps that aren't undone, those up to a place are done, and those after it aren't done
+// yet: a file has the bytes that the first of the latter found, or else those that the last of the
+// former left. A step that is undone since counts only while it was in force: then a file that it
+// replaced has the bytes that it left. Nothing else is known to have changed.
 
 ghost use Rattle.std.specs.Prelude.{IfSome};
 ghost use Rattle.stage_servers.specs.Served.{HasDigest};
@@ -23,9 +24,6 @@ fn add_files(
     step: &StagingStep,
     is_after: bool,
 ) -> Result<(), AllocError> {
-    if step.is_undone {
-        return Ok(());
-    }
     for file in &step.files {
         let name = file.name.as_str();
         if file_named(files.as_slice(), name).is_none() {
@@ -38,21 +36,41 @@ fn add_files(
     Ok(())
 }
 
-/// The files that steps replaced, with the bytes that they had after the first `count`.
-pub(crate) fn files_after(
+// The same of a step that isn't undone.
+fn add_if_done(
+    alloc: Global,
+    files: &mut Vec<ReplacedFile>,
+    step: &StagingStep,
+    is_after: bool,
+) -> Result<(), AllocError> {
+    if step.is_undone {
+        return Ok(());
+    }
+    add_files(alloc, files, step, is_after)
+}
+
+/// The files that steps replaced, with the bytes that they had after the first `count`. Of these,
+/// the ones from the place `first` on count as done even if they are undone since.
+// open: which files these are, and with which bytes: rows.
+pub fn files_left(
     alloc: Global,
     steps: &[StagingStep],
+    first: usize,
     count: usize,
 ) -> Result<Vec<ReplacedFile>, AllocError> {
     let mut files = Vec::new(alloc);
     let Some((done, later)) = steps.split_at_checked(count) else {
         return Ok(files);
     };
-    for step in later {
-        add_files(alloc, &mut files, step, false)?;
-    }
-    for step in done.iter().rev() {
+    let (earlier, run) = done.split_at(first.min(done.len()));
+    for step in run.iter().rev() {
         add_files(alloc, &mut files, step, true)?;
+    }
+    for step in later {
+        add_if_done(alloc, &mut files, step, false)?;
+    }
+    for step in earlier.iter().rev() {
+        add_if_done(alloc, &mut files, step, true)?;
     }
     Ok(files)
 }

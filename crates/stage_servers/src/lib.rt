@@ -53,7 +53,7 @@ mod surveying;
 
 pub use collected::{app_named, collected_at};
 pub use drift::{push_serves, stop_if_drifted};
-pub use earlier_files::{collected_as, collected_with};
+pub use earlier_files::{collected_as, collected_with, files_left};
 pub use edits::stop_if_edited;
 pub use halted_app::halted_appid;
 pub use history::push_history;

@@ -3,7 +3,7 @@
 ghost use Rattle.std.specs.Prelude.{IfOk, IfSome, Some};
 ghost use Rattle.stage_servers.specs.Drift.{IsServedBy};
 
-use crate::earlier_files::{collected_as, files_after};
+use crate::earlier_files::{collected_as, files_left};
 use crate::options::StageCall;
 use bounded_files::Disk;
 use printing::TextBuffer;
@@ -115,7 +115,7 @@ fn left_by<D: Disk>(
     let Some(number) = number_of(steps, count) else {
         return Ok(None);
     };
-    let files = files_after(alloc, steps, count)?;
+    let files = files_left(alloc, steps, count, count)?;
     match collected_as(alloc, disk, manifest, &files, digest) {
         Some(collected) => {
             drop(collected);
