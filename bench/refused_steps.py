@@ -86,7 +86,7 @@ class Steps:
         if found == untroubled and files == new:
             return "done all the same"
         is_done = found[0] == 0 and files == new and untroubled[1].endswith(found[1])
-        if is_done and found[2].endswith(UNCOMPARED):
+        if is_done and UNCOMPARED in found[2]:
             return "done, not compared"
         refused = LINE.fullmatch(found[2])
         if found[0] == 1 and refused:

@@ -1,6 +1,5 @@
 -- What is known of each part makes the plan of a put.
-use Rattle.std.proofs.Common.{◌≡◌, ℕ, List, Bool, false}
-use Rattle.std.specs.Prelude.{Option, None}
+use Rattle.std.proofs.Common.{◌≡◌, ℕ, List, [], Bool, false}
 use Rattle.bounded_files.specs.Files.{KnownFiles}
 use Rattle.load.specs.Opened.{IsCollected}
 use Rattle.load.specs.declared.opened.CollectedManifest.{CollectedManifest}
@@ -10,23 +9,25 @@ use Rattle.stage_folder.specs.declared.records.RecordedSteps.{RecordedSteps}
 use Rattle.stage_records.specs.Steps.{ReplacedFile, StagingStep}
 use Rattle.stage_records.specs.declared.step.StepAction.TheVariants.{Put}
 use Rattle.stage_commands.specs.Compared.{IsAccepted}
-use Rattle.stage_commands.specs.PutPlans.{IsLiftedBy, IsPresent, IsPutPlan, IsUnrefused}
+use Rattle.stage_commands.specs.PutPlans.{AreLiftedBy, IsPresent, IsPutPlan, IsUnrefused}
 use Rattle.stage_commands.specs.Puts.{AreChangesTo, LiftsNone, PlansPut, none_lifted, none_offered}
+use Rattle.stage_commands.proofs.Then.{lifts_nothing}
 use Rattle.stage_servers.specs.Whole.{AreAllRead}
-use Rattle.stage_commands.specs.declared.puts.Plan.{Plan}
+use Rattle.stage_commands.specs.declared.puts.PutPlan.{PutPlan}
 use Rattle.stage_commands.specs.declared.present.Present.{Present}
 use Rattle.stage_commands.specs.declared.present.Present.TheVariants as present
 
 pub lifts_none : (known : KnownFiles) (current : List ℕ) (folder : KnownFolder)
     (steps : List StagingStep) (there : Present) (next : List AppSources)
-    (lifted : Option (List ℕ)) → IsPresent known current folder there → IsUnrefused there
-    → IsLiftedBy steps there next lifted → lifted ≡ None
+    (named : List (List ℕ)) → IsPresent known current folder there → IsUnrefused there
+    → AreLiftedBy steps there next named → named ≡ []
     → LiftsNone known current folder steps next
-lifts_none known current folder steps present.Nothing next lifted is some by none =
-    none_offered is (by none)
-lifts_none known current folder steps (present.Manifest manifest) next lifted is some by none =
-    none_lifted manifest is (by none)
-lifts_none known current folder steps (present.Refused why) next lifted is some by none =
+lifts_none known current folder steps present.Nothing next named is some are none =
+    none_offered is (lifts_nothing steps [] next named are none)
+lifts_none known current folder steps (present.Manifest manifest) next named is some are none =
+    none_lifted manifest is
+    (lifts_nothing steps manifest.sources.apps.items next named are none)
+lifts_none known current folder steps (present.Refused why) next named is some are none =
     absurd some
 
 pub plans : (known : KnownFiles) (current manifest : List ℕ) (folder : KnownFolder)
@@ -44,7 +45,7 @@ plans known current manifest folder steps anyway files next collected accepted a
 }
 
 pub put_plan : (known : KnownFiles) (current manifest : List ℕ) (anyway : Bool)
-    (records : KnownRecords) (folder : KnownFolder) (plan : Plan) (recorded : RecordedSteps)
+    (records : KnownRecords) (folder : KnownFolder) (plan : PutPlan) (recorded : RecordedSteps)
     → AreAllRead records recorded → IsFree records plan.number → plan.action ≡ Put manifest
     → PlansPut known current manifest folder recorded.steps.items anyway plan.files.items
     → IsPutPlan known current manifest anyway records folder plan

@@ -22,7 +22,7 @@ use Rattle.stage_commands.specs.Resumes.{HasResumed, PlansResume}
 use Rattle.stage_commands.specs.Stages.{HasHalted, HasRaised, PlansHalt, PlansRaise}
 use Rattle.stage_commands.specs.Taken.{IsTaken, Takes}
 use Rattle.stage_servers.specs.Whole.{AreAllRead, HasOnlySteps}
-use Rattle.stage_commands.specs.declared.puts.Plan.{Plan}
+use Rattle.stage_commands.specs.declared.puts.PutPlan.{PutPlan}
 use Rattle.stage_commands.proofs.Put.{StepsLeave, found_changes, in_place}
 
 same : (old : KnownFolder) → option_map (done []) old ≡ old
@@ -179,7 +179,7 @@ module _ (known : KnownFiles) (manifest appid : List ℕ) (options : StageOption
 
 pub has_put : StepsLeave → (known : KnownFiles) (current manifest : List ℕ)
     (options : StageOptions) (old_records new_records : KnownRecords) (old new : KnownFolder)
-    (plan : Plan) → IsPutPlan known current manifest options.anyway old_records old plan
+    (plan : PutPlan) → IsPutPlan known current manifest options.anyway old_records old plan
     → Takes options plan.number plan.action plan.files.items old_records new_records old new
     → HasPut known current manifest options old_records new_records old new
 has_put laws known current manifest options old_records new_records old new plan is takes =

@@ -8,9 +8,10 @@ use Rattle.stage_folder.specs.Recorded.{IsRecorded}
 use Rattle.stage_folder.specs.Steps.{edited_place, undone}
 use Rattle.stage_records.specs.Steps.{StagingStep}
 use Rattle.stage_rules.specs.InForce.{app_of_any_halt}
-use Rattle.stage_rules.specs.Lifting.{LiftsNothing}
-use Rattle.stage_commands.specs.Befores.{IsGathered, WasGathered}
+use Rattle.stage_rules.specs.Lifting.{AreNamed, HasAppOf, LiftsNothing}
+use Rattle.stage_commands.specs.Befores.{WasGathered}
 use Rattle.stage_commands.specs.Taken.{IsLast, as_undone}
+use Rattle.stage_servers.specs.Gathered.{IsGathered}
 
 -- undoing a step lifts no halt; if a manifest can't be gathered, the step isn't a halt
 abbrev pub LiftsNoneByUndoing : List StagingStep → StagingStep
@@ -18,6 +19,14 @@ abbrev pub LiftsNoneByUndoing : List StagingStep → StagingStep
 LiftsNoneByUndoing steps step (Some present) (Some before) =
     LiftsNothing steps present.sources.apps.items before.sources.apps.items
 LiftsNoneByUndoing steps step present before = app_of_any_halt step.action ≡ None
+
+-- the apps of the halts that undoing a step lifts are among these; if a manifest can't be gathered,
+-- that of the step's own halt is
+abbrev pub AreNamedByUndoing : List StagingStep → StagingStep
+    → (present before : Option CollectedManifest) → (named : List (List ℕ)) → Type 0
+AreNamedByUndoing steps step (Some present) (Some before) named =
+    AreNamed steps present.sources.apps.items before.sources.apps.items named
+AreNamedByUndoing steps step present before named = HasAppOf named step.action
 
 -- undoing a step lifts no halt of these steps, by the manifests in place and before it, as far as
 -- that is known

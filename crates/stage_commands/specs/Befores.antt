@@ -1,17 +1,16 @@
--- The manifest in place and its files, of which a step's are as before it.
-use Rattle.std.specs.Prelude.{◌≡◌, ℕ, List, [], codes, Bool, true, false, Option, Some, None}
+-- The manifest as before a step, and its files, of which the step's are as before it.
+use Rattle.std.specs.Prelude.{◌≡◌, ℕ, List, [], codes, true, false, Option, Some, None}
 use Rattle.bounded_files.specs.Files.{Gives, KnownFiles, regular_files}
 use Rattle.bounded_files.specs.declared.resource_fault.ResourceFault.TheVariants.{File, Memory}
 use Rattle.load.specs.Folder.{files_in_folder}
 use Rattle.load.specs.Load.{IsLoadFault}
 use Rattle.load.specs.Loaded.{RefusesPath}
-use Rattle.load.specs.Opened.{IsCollected}
 use Rattle.load.specs.Sources.{AreSources}
-use Rattle.load.specs.declared.load_fault.LoadFault.TheVariants.{Cells, Manifest as NoManifest}
 use Rattle.load.specs.declared.load_fault.PathFault.{PathFault}
 use Rattle.load.specs.declared.load_fault.PathFault.TheVariants.{Load, Resource}
 use Rattle.load.specs.declared.opened.CollectedManifest.{CollectedManifest}
 use Rattle.stage_records.specs.Steps.{ReplacedFile}
+use Rattle.stage_servers.specs.Gathered.{precedes_files}
 use Rattle.stage_servers.specs.Replaced.{bytes_then, file_named, files_then}
 
 -- the bytes of the manifest in place, as before a step
@@ -28,20 +27,6 @@ pub record WasCollected (known : KnownFiles) (current : List ℕ) (replaced : Li
       c.bytes.items c.sources
 
 -- ---- manifests that can't be gathered
-
--- a fault that no app's file decides: the manifest can't be read, isn't one, or has an array that
--- can't be declared
-abbrev pub precedes_files : PathFault → Bool
-precedes_files (Resource File) = true
-precedes_files (Load (NoManifest fault)) = true
-precedes_files (Load (Cells array fault)) = true
-precedes_files fault = false
-
--- the manifest in place, gathered with its files; none if it can't be
-abbrev pub IsGathered : KnownFiles → (current : List ℕ) → Option CollectedManifest → Type 0
-IsGathered known current (Some manifest) = IsCollected known current manifest
-IsGathered known current None = (fault : PathFault) × RefusesPath known current [] fault
-    × (precedes_files fault ≡ true)
 
 -- why the manifest as before a step can't be gathered; running out of memory is always allowed
 abbrev pub RefusesBefore : KnownFiles → (current : List ℕ) → PathFault → Option ReplacedFile

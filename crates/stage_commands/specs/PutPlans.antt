@@ -8,12 +8,12 @@ use Rattle.stage_folder.specs.declared.records.RecordedSteps.{RecordedSteps}
 use Rattle.stage_folder.specs.Steps.{has_name, left_by}
 use Rattle.stage_records.specs.Steps.{ReplacedFile, StagingStep}
 use Rattle.stage_records.specs.declared.step.StepAction.TheVariants.{Put}
-use Rattle.stage_rules.specs.Lifting.{LiftsNothing}
+use Rattle.stage_rules.specs.Lifting.{AreNamed}
 use Rattle.stage_commands.specs.Puts.{PlansPut}
 use Rattle.stage_servers.specs.Whole.{AreAllRead}
 use Rattle.stage_commands.specs.declared.put_files.Content.{Content}
 use Rattle.stage_commands.specs.declared.put_files.Content.TheVariants as content
-use Rattle.stage_commands.specs.declared.puts.Plan.{Plan}
+use Rattle.stage_commands.specs.declared.puts.PutPlan.{PutPlan}
 use Rattle.stage_commands.specs.declared.present.Present.{Present}
 use Rattle.stage_commands.specs.declared.present.Present.TheVariants as present
 
@@ -28,14 +28,14 @@ abbrev pub IsUnrefused : Present → Type 0
 IsUnrefused (present.Refused why) = ⊥
 IsUnrefused other = Unit {0}
 
--- a name, if the next manifest may lift a halt in force; without one, it lifts none, unless the one
--- in place is refused
-abbrev pub IsLiftedBy : List StagingStep → Present → (next : List AppSources)
-    → Option (List ℕ) → Type 0
-IsLiftedBy steps present.Nothing next lifted = lifted ≡ None → LiftsNothing steps [] next
-IsLiftedBy steps (present.Manifest manifest) next lifted =
-    lifted ≡ None → LiftsNothing steps manifest.sources.apps.items next
-IsLiftedBy steps (present.Refused why) next lifted = Unit {0}
+-- each app of which the next manifest may lift a halt is among these, unless the one in place is
+-- refused
+abbrev pub AreLiftedBy : List StagingStep → Present → (next : List AppSources)
+    → (named : List (List ℕ)) → Type 0
+AreLiftedBy steps present.Nothing next named = AreNamed steps [] next named
+AreLiftedBy steps (present.Manifest manifest) next named =
+    AreNamed steps manifest.sources.apps.items next named
+AreLiftedBy steps (present.Refused why) next named = Unit {0}
 
 -- what these files have under a name, compared with these bytes
 abbrev pub IsContent : List ReplacedFile → (name bytes : List ℕ) → Content → Type 0
@@ -45,7 +45,7 @@ IsContent files name bytes content.Other = Unit {0}
 
 -- the files of a manifest, and a number for the step
 pub record IsPutPlan (known : KnownFiles) (current manifest : List ℕ) (anyway : Bool)
-    (records : KnownRecords) (folder : KnownFolder) (plan : Plan) : Type 0 where
+    (records : KnownRecords) (folder : KnownFolder) (plan : PutPlan) : Type 0 where
   pub recorded : RecordedSteps
   pub are : AreAllRead records recorded
   pub number_is : IsFree records plan.number

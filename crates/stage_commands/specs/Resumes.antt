@@ -24,7 +24,8 @@ abbrev pub replaces_after : (number : ℕ) → (name : List ℕ) → StagingStep
 replaces_after number name step =
     nat_lt number step.number && not step.is_undone && is_some (file_named step.files name)
 
--- the last halt of the app found these bytes in its file, which no later step replaced
+-- the last halt of the app that isn't undone found these bytes in its file, which no later step
+-- replaced but one that is undone
 pub record WasBefore (steps : List StagingStep) (app : AppSources) (was : List ℕ) : Type 0 where
   pub step : StagingStep
   pub last : last_halt steps app.entry.appid ≡ Some step
@@ -63,9 +64,9 @@ module _ (known : KnownFiles) (manifest appid : List ℕ) (buckets : Option ℕ)
     pub plan : PlansResumeOf folder steps app buckets file
 
   -- a halt of the app is in force, or its last one is that of a release; its file then has what its
-  -- last recorded halt found there, but for the number of its threshold if one is given; the
-  -- manifest isn't refused with a file that is replaced; all other files are as before, and a step
-  -- that replaces a file is recorded
+  -- last recorded halt that isn't undone found there, but for the number of its threshold if one is
+  -- given; the manifest isn't refused with a file that is replaced; all other files are as before,
+  -- and a step that replaces a file is recorded
   pub record HasResumed (old_records new_records : KnownRecords) (old new : KnownFolder)
       : Type 0 where
     pub recorded : RecordedSteps

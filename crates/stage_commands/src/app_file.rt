@@ -124,7 +124,7 @@ where
     let Some(other) = found else {
         return Ok(app);
     };
-    let refusal = one_file(alloc, app.entry.source().file(), other.entry.appid());
+    let refusal = one_file(alloc, app, other);
     match lines.go_on_if(call.options.anyway, refusal) {
         Ok(()) => Ok(app),
         Err(stop) => Err(stop),

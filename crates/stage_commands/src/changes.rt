@@ -139,7 +139,7 @@ where
     };
     match change_files(&call, folder, action, lines) {
         Ok(()) => {
-            let lifted = apps_lifted(&call, halted);
+            let lifted = apps_lifted(&call, halted, lines);
             let are_loaded = load_all(&call, &*folder, action, &lifted, lines);
             Ok(are_loaded && !lines.is_amiss())
         }

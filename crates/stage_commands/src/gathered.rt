@@ -1,33 +1,17 @@
-//! The manifest in place, and the one before a step, gathered with their files; none if one can't
-//! be, whatever its files have.
+//! The manifest as it was before a step, gathered with its files; none if it can't be, whatever its
+//! files have.
 
 ghost use Rattle.std.specs.Prelude.{◌≡◌, IfErr, IfOk, codes};
-ghost use Rattle.stage_commands.specs.Befores as specs;
 ghost use Rattle.stage_servers.specs.Replaced.{file_named};
-ghost use Rattle.stage_commands.specs.Befores.{GivesBefore, IsGathered, RefusesBefore};
-ghost use Rattle.stage_commands.specs.Befores.{WasCollected, WasGathered};
+ghost use Rattle.stage_commands.specs.Befores.{GivesBefore, RefusesBefore, WasCollected};
+ghost use Rattle.stage_commands.specs.Befores.{WasGathered};
 
+use crate::present::CURRENT;
 use bounded_files::{Disk, ResourceFault};
-use load::{CollectedManifest, LoadFault, PathFault, collect_manifest, manifest_bytes};
+use load::{CollectedManifest, PathFault, manifest_bytes};
 use stage_records::ReplacedFile;
-use stage_servers::{Stop, bytes_of, file_named, sources_with};
+use stage_servers::{Stop, bytes_of, file_named, precedes_files, sources_with};
 use std::alloc::Global;
-
-/// The name of the manifest in place.
-const CURRENT: &str = "current.toml";
-
-// Whether a fault is about the manifest: it can't be read, isn't one, or has an array that can't be
-// declared. Otherwise memory ran out.
-fn precedes_files(fault: &PathFault) -> bool
-    ensures { result ≡ specs.precedes_files fault.now }
-{
-    match fault {
-        PathFault::Resource(ResourceFault::File) => true,
-        PathFault::Load(LoadFault::Manifest(_)) => true,
-        PathFault::Load(LoadFault::Cells { .. }) => true,
-        _ => false,
-    }
-}
 
 // The bytes of the manifest as it was before a step.
 #[tactic(auto, using(crate::proofs::Then::not_replaced))]
@@ -91,28 +75,6 @@ pub(crate) fn collected_before<D: Disk>(
     ensures { IfOk result (WasGathered (D.known disk.now) manifest.now restored.now) }
 {
     match collect_before(alloc, disk, manifest, restored) {
-        Ok(collected) => Ok(Some(collected)),
-        Err(fault) => {
-            let is_first = precedes_files(&fault);
-            drop(fault);
-            if is_first {
-                return Ok(None);
-            }
-            Err(Stop::Memory)
-        }
-    }
-}
-
-/// The manifest in place, gathered with its files; none if it can't be gathered.
-#[tactic(auto, using(crate::proofs::Then::not_gathered))]
-pub(crate) fn collected_now<D: Disk>(
-    alloc: Global,
-    disk: &D,
-    manifest: &str,
-) -> Result<Option<CollectedManifest>, Stop>
-    ensures { IfOk result (IsGathered (D.known disk.now) manifest.now) }
-{
-    match collect_manifest(alloc, disk, manifest) {
         Ok(collected) => Ok(Some(collected)),
         Err(fault) => {
             let is_first = precedes_files(&fault);

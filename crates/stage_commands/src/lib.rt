@@ -5,8 +5,8 @@
 #![tactic(auto)]
 
 // How it works. A halt is sent to the servers before the folder is opened, and the folder is locked
-// (`locking.rt`). An action but a halt stops if a server serves neither what is in place nor what
-// the last step left (`stage_servers`).
+// (`locking.rt`). An action but a halt stops if a server says that it serves neither what is in
+// place nor what the last step left, nor for `back` what the step before it left (`stage_servers`).
 //
 // The manifest in place is gathered like a load's. What is to be replaced is planned first, and
 // nothing is changed meanwhile: the file that halts an app (`app_halts.rt`), a rule with another
@@ -16,7 +16,8 @@
 // (`warned.rt`). The plan is a step, which is recorded and then performed (`taking.rt`), or for
 // `back` one that is undone (`undoing.rt`).
 //
-// Then each server loads the manifest (`stage_servers`), also if nothing had to be replaced.
+// Then each server loads the manifest (`stage_servers`), but one that is spared; also if nothing
+// had to be replaced.
 //
 // The contracts are about the files of the folder, which are known for a folder in memory. No
 // contract says what is printed, or what a server does.

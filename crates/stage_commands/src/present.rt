@@ -1,19 +1,19 @@
 //! The manifest in place, before another one is put there.
 
-ghost use Rattle.std.specs.Prelude.{◌≡◌, IfOk, None, option_copied, option_map, true};
-ghost use Rattle.stage_commands.specs.PutPlans.{IsLiftedBy, IsPresent};
+ghost use Rattle.std.specs.Prelude.{◌≡◌, IfOk, None, map, option_map, string_bytes, true};
+ghost use Rattle.stage_commands.specs.PutPlans.{AreLiftedBy, IsPresent};
 ghost use Rattle.stage_folder.specs.Folders.{GivesFile};
 
 use bounded_files::Disk;
 use load::{AppSources, CollectedManifest};
 use stage_folder::StageFolder;
 use stage_records::StagingStep;
-use stage_rules::lifted_app;
+use stage_rules::lifted_apps;
 use stage_servers::{StageCall, Stop, collected_at};
 use std::alloc::{AllocError, Global};
 
 /// The name of the manifest in place.
-const CURRENT: &str = "current.toml";
+pub(crate) const CURRENT: &str = "current.toml";
 
 /// The manifest in place.
 #[derive(Drop)]
@@ -61,19 +61,20 @@ where
     }
 }
 
-/// The app of a halt in force that the next manifest may lift; none if the one in place is refused.
-pub(crate) fn lifted_by<'a>(
+/// The apps of the halts in force that the next manifest may lift; none if the one in place is
+/// refused.
+pub(crate) fn lifted_by(
     alloc: Global,
-    steps: &'a [StagingStep],
+    steps: &[StagingStep],
     present: &Present,
     next: &[AppSources],
-) -> Result<Option<&'a str>, AllocError>
-    ensures { IfOk result (λ lifted.
-        IsLiftedBy steps.now present.now next.now (option_copied lifted)) }
+) -> Result<Vec<String>, AllocError>
+    ensures { IfOk result (λ named.
+        AreLiftedBy steps.now present.now next.now (map string_bytes named.items)) }
 {
     match present {
-        Present::Nothing => lifted_app(alloc, steps, &[], next),
-        Present::Manifest(present) => lifted_app(alloc, steps, &present.sources.apps, next),
-        Present::Refused(_) => Ok(None),
+        Present::Nothing => lifted_apps(alloc, steps, &[], next),
+        Present::Manifest(present) => lifted_apps(alloc, steps, &present.sources.apps, next),
+        Present::Refused(_) => Ok(Vec::new(alloc)),
     }
 }

@@ -6,15 +6,13 @@ ghost use Rattle.stage_commands.specs.Puts.{AddsAppFile, AddsFile, AreChangesTo,
 ghost use Rattle.stage_commands.specs.Puts.{AreFilesSoFar};
 ghost use Rattle.stage_folder.specs.Steps as specs;
 
+use crate::present::CURRENT;
 use crate::stop_texts::TWO_CONTENTS;
 use load::{AppSources, whole_file};
 use stage_folder::StageFolder;
 use stage_records::ReplacedFile;
 use stage_servers::{Stop, file_named, in_folder, refusal_of, replaced_file};
 use std::alloc::{AllocError, Global};
-
-// The name of the manifest in place.
-const CURRENT: &str = "current.toml";
 
 // What the files have under a name.
 enum Content {

@@ -112,7 +112,7 @@ where
 }
 
 // A step that is to be taken.
-struct Plan {
+struct PutPlan {
     number: u32,
     action: StepAction,
     files: Vec<ReplacedFile>,
@@ -124,7 +124,7 @@ fn plan_of<R, D, F>(
     folder: &F,
     manifest: &str,
     lines: &mut Lines,
-) -> Result<Plan, Stop>
+) -> Result<PutPlan, Stop>
 where
     R: AllocGlobal + Clock + Net<Stream = TcpStream>,
     D: Disk,
@@ -138,7 +138,7 @@ where
     let number = number_in(alloc, folder)?;
     let files = planned_files(call, folder, manifest, &recorded.steps, lines)?;
     drop(recorded);
-    Ok(Plan {
+    Ok(PutPlan {
         number,
         action: StepAction::Put { manifest: owned },
         files,
@@ -171,7 +171,7 @@ where
     steps_leave();
     match plan_of(call, &*folder, manifest, lines) {
         Ok(
-            Plan {
+            PutPlan {
                 number,
                 action,
                 files,

@@ -1,19 +1,20 @@
 //! What changes if a step is undone: the manifest in place, compared with the one before the step;
-//! and which halt that lifts.
+//! and which halts that lifts.
 
-ghost use Rattle.std.specs.Prelude.{◌≡◌, IfOk, IfSome, None, OnOk, false, option_copied};
-ghost use Rattle.stage_commands.specs.Backs.{LiftsNoneByUndoing, UndoingLiftsNone};
+ghost use Rattle.std.specs.Prelude.{◌≡◌, IfOk, IfSome, OnOk, false, map, string_bytes};
+ghost use Rattle.stage_commands.specs.Backs.{AreNamedByUndoing, UndoingLiftsNone};
 ghost use Rattle.stage_commands.specs.Compared.{AreAllJudged};
+ghost use Rattle.stage_rules.specs.Lifting.{HasAppOf};
 
 use crate::comparison::compare;
-use crate::gathered::{collected_before, collected_now};
+use crate::gathered::collected_before;
 use crate::judged::judged;
 use crate::lifting::stop_if_lifted;
 use bounded_files::Disk;
 use load::{CollectedManifest, JudgedManifest};
-use stage_records::StagingStep;
-use stage_rules::{app_of_any_halt, lifted_app};
-use stage_servers::{Lines, StageCall, Stop};
+use stage_records::{StagingStep, StepAction};
+use stage_rules::{app_of_any_halt, lifted_apps, push_once};
+use stage_servers::{Lines, StageCall, Stop, collected_now};
 use std::alloc::{AllocError, Global};
 use std::net::{Net, TcpStream};
 use std::time::Clock;
@@ -24,23 +25,38 @@ pub(crate) const NOT_COMPARED: &str =
 
 // ---- halts
 
-// The app of a halt in force that undoing a step lifts. If a manifest can't be gathered, so that
-// this isn't known, a halt is taken to be lifted.
-fn lifted_by_undoing<'a>(
+// The app of an action's halt; none of another action.
+#[tactic(auto, using(crate::proofs::Then::own_app, crate::proofs::Then::no_own_app))]
+fn own_app(alloc: Global, action: &StepAction) -> Result<Vec<String>, AllocError>
+    ensures { IfOk result (λ named. HasAppOf (map string_bytes named.items) action.now) }
+{
+    let mut named = Vec::new(alloc);
+    match app_of_any_halt(action) {
+        None => Ok(named),
+        Some(appid) => match push_once(alloc, &mut named, appid) {
+            Ok(()) => Ok(named),
+            Err(_) => Err(AllocError),
+        },
+    }
+}
+
+// The apps of the halts in force that undoing a step lifts. If a manifest can't be gathered, so
+// that this isn't known, the step's own halt is taken to be lifted.
+fn lifted_by_undoing(
     alloc: Global,
-    steps: &'a [StagingStep],
-    step: &'a StagingStep,
+    steps: &[StagingStep],
+    step: &StagingStep,
     present: &Option<CollectedManifest>,
     before: &Option<CollectedManifest>,
-) -> Result<Option<&'a str>, AllocError>
-    ensures { IfOk result (λ lifted. option_copied lifted ≡ None
-        → LiftsNoneByUndoing steps.now step.now present.now before.now) }
+) -> Result<Vec<String>, AllocError>
+    ensures { IfOk result (λ named. AreNamedByUndoing steps.now step.now present.now before.now
+        (map string_bytes named.items)) }
 {
     match (present, before) {
         (Some(present), Some(before)) => {
-            lifted_app(alloc, steps, &present.sources.apps, &before.sources.apps)
+            lifted_apps(alloc, steps, &present.sources.apps, &before.sources.apps)
         }
-        _ => Ok(app_of_any_halt(&step.action)),
+        _ => own_app(alloc, &step.action),
     }
 }
 

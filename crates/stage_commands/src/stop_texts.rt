@@ -73,10 +73,16 @@ pub(crate) fn not_compared(alloc: Global, fault: DiffFault) -> Stop {
     refusal(text)
 }
 
-/// The next manifest would lift a halt.
-pub(crate) fn lifts(alloc: Global, appid: &str) -> Stop {
+/// The next manifest would lift the halts of these apps.
+pub(crate) fn lifts(alloc: Global, appids: &[String]) -> Stop {
     let mut text = TextBuffer::new(alloc);
-    text.push_printed("this lifts the halt of ", appid, " (--anyway continues)");
+    text.push("this lifts the halt of ");
+    let mut mark = "";
+    for appid in appids {
+        text.push_printed(mark, appid.as_str(), "");
+        mark = ", and of ";
+    }
+    text.push(" (--anyway continues)");
     refusal(text)
 }
 
@@ -108,11 +114,16 @@ pub(crate) fn release_halted(alloc: Global, appid: &str, version: &str, number: 
     refusal(text)
 }
 
-/// Another app has the same file.
-pub(crate) fn one_file(alloc: Global, file: &str, other: &str) -> Stop {
+/// Another app has the same file. If it names it otherwise, only the first one is compared.
+pub(crate) fn one_file(alloc: Global, app: &AppSources, other: &AppSources) -> Stop {
+    let (file, too) = (app.entry.source().file(), other.entry.source().file());
     let mut text = TextBuffer::new(alloc);
     text.push_printed("", file, " is the file of app ");
-    text.push_printed("", other, ", too (--anyway changes both)");
+    text.push_printed("", other.entry.appid(), ", too (");
+    if file != too {
+        text.push_printed("as ", too, ", so it isn't compared; ");
+    }
+    text.push("--anyway changes both)");
     refusal(text)
 }
 

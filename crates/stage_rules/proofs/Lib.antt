@@ -5,3 +5,4 @@ mod HaltedProgram
 mod ReleaseMeaning
 mod LeavingOut
 mod KnownOffers
+mod Named

@@ -1,5 +1,5 @@
--- Which halts are in force, and which of them another manifest lifts.
-use Rattle.std.specs.Prelude.{ℕ, List, [], ◌∷◌, filter_map, find, Option, Some, None, is_some}
+-- Which halts are in force, and when another manifest lifts that of an app.
+use Rattle.std.specs.Prelude.{◌≡◌, ℕ, List, [], ◌∷◌, filter_map, Option, Some, None, is_some}
 use Rattle.std.specs.Prelude.{Bool, true, false, not, ◌&&◌, ◌||◌, if◌then◌else◌}
 use Rattle.std.specs.List.{list_any}
 use Rattle.std.specs.Option.{option_or}
@@ -10,6 +10,19 @@ use Rattle.stage_records.specs.Steps.{StagingStep}
 use Rattle.stage_records.specs.declared.step.StepAction.{StepAction}
 use Rattle.stage_records.specs.declared.step.StepAction.TheVariants.{Halt, HaltRelease}
 use Rattle.stage_rules.specs.Halts.{halting_file}
+
+-- ---- lists of apps
+
+-- an app is among these
+abbrev pub is_named : List (List ℕ) → (appid : List ℕ) → Bool
+is_named appids appid = list_any (λ one. bytes_eq one appid) appids
+
+-- one more app is among these
+abbrev pub HasOneMore : (appid : List ℕ) → (old new : List (List ℕ)) → Type 0
+HasOneMore appid old new =
+    (other : List ℕ) → is_named new other ≡ (is_named old other || bytes_eq appid other)
+
+-- ---- halts in force
 
 -- the app of a halt
 abbrev pub app_of_halt : StepAction → Option (List ℕ)
@@ -51,16 +64,11 @@ surely_offers apps appid =
 -- a halt of this app is in force under a manifest, unless that surely offers the app
 abbrev pub is_in_force : List StagingStep → List AppSources → (appid : List ℕ) → Bool
 is_in_force steps apps appid =
-    list_any (λ halted. bytes_eq halted appid) (halted_apps steps)
-    && not (surely_offers apps appid)
+    is_named (halted_apps steps) appid && not (surely_offers apps appid)
 
 -- the next manifest may offer an app that the current one doesn't surely offer
 abbrev pub lifts : (current next : List AppSources) → (appid : List ℕ) → Bool
 lifts current next appid = not (surely_offers current appid) && may_offer next appid
-
--- the app of the first halt that the next manifest may lift
-abbrev pub lifted_halt : List StagingStep → (current next : List AppSources) → Option (List ℕ)
-lifted_halt steps current next = find (lifts current next) (halted_apps steps)
 
 -- ---- the last halt
 

@@ -1,5 +1,5 @@
 -- Which halts another manifest lifts: those of apps, and those of releases.
-use Rattle.std.specs.Prelude.{◌≡◌, ◌⊎◌, ℕ, List, All, find, Ok, Option, Some, None}
+use Rattle.std.specs.Prelude.{◌≡◌, ◌⊎◌, ℕ, List, All, find, Ok, Option, Some, None, IfSome}
 use Rattle.std.specs.Prelude.{Bool, true, false, if◌then◌else◌}
 use Rattle.std.specs.List.{list_any}
 use Rattle.std.specs.Str.{bytes_eq}
@@ -10,8 +10,8 @@ use Rattle.rule_lang.specs.Verdicts.{IsVerdict}
 use Rattle.rule_lang.specs.declared.rule.Statement.{Statement}
 use Rattle.stage_records.specs.Steps.{StagingStep}
 use Rattle.stage_records.specs.declared.step.StepAction.{StepAction}
-use Rattle.stage_records.specs.declared.step.StepAction.TheVariants.{HaltRelease}
-use Rattle.stage_rules.specs.InForce.{is_halted, is_offered, lifted_halt}
+use Rattle.stage_records.specs.declared.step.StepAction.TheVariants.{Halt, HaltRelease}
+use Rattle.stage_rules.specs.InForce.{app_of_any_halt, is_halted, is_named, is_offered, lifts}
 use Rattle.stage_rules.specs.ReleaseHalts.{offers}
 
 -- an app's file surely offers a version, or surely doesn't: one that halts the app doesn't, any
@@ -39,25 +39,43 @@ abbrev pub OffersNoMore : (current next : List AppSources) → (appid version : 
 OffersNoMore current next appid version =
     IsKnownAmong current appid version true ⊎ IsKnownAmong next appid version false
 
--- a version of an app
-pub record Version : Type 0 where
-  pub appid : List ℕ
-  pub version : List ℕ
+-- ---- the halts of steps
 
-abbrev pub version_of : StepAction → Option Version
-version_of (HaltRelease appid version) = Some (record { appid = appid; version = version })
-version_of action = None
+-- the action of a step, unless it is undone
+abbrev pub action_in_force : StagingStep → Option StepAction
+action_in_force step = if step.is_undone then None else Some step.action
 
--- the version that a step halts, unless it is undone
-abbrev pub halted_version : StagingStep → Option Version
-halted_version step = if step.is_undone then None else version_of step.action
-
--- the same of a version that a step may halt
-abbrev pub StaysHalted : (current next : List AppSources) → Option Version → Type 0
-StaysHalted current next None = Unit {0}
-StaysHalted current next (Some one) = OffersNoMore current next one.appid one.version
+-- the next manifest doesn't lift the halt of this action
+abbrev pub StaysHalted : (current next : List AppSources) → Option StepAction → Type 0
+StaysHalted current next (Some (Halt appid)) = lifts current next appid ≡ false
+StaysHalted current next (Some (HaltRelease appid version)) =
+    OffersNoMore current next appid version
+StaysHalted current next other = Unit {0}
 
 -- no halt of these steps is lifted
-pub record LiftsNothing (steps : List StagingStep) (current next : List AppSources) : Type 0 where
-  pub no_app : lifted_halt steps current next ≡ None
-  pub no_version : All (λ step. StaysHalted current next (halted_version step)) steps
+abbrev pub LiftsNothing : List StagingStep → (current next : List AppSources) → Type 0
+LiftsNothing steps current next =
+    All (λ step. StaysHalted current next (action_in_force step)) steps
+
+-- ---- the apps of those that are lifted
+
+-- the app of an action's halt is among these
+abbrev pub HasAppOf : (named : List (List ℕ)) → StepAction → Type 0
+HasAppOf named action = IfSome (app_of_any_halt action) (λ appid. is_named named appid ≡ true)
+
+-- a step's halt isn't lifted, or its app is among these
+abbrev pub IsLiftNamed : (current next : List AppSources) → (named : List (List ℕ)) → StagingStep
+    → Type 0
+IsLiftNamed current next named step =
+    StaysHalted current next (action_in_force step) ⊎ HasAppOf named step.action
+
+-- each app of which one of these steps' halts may be lifted is among these
+abbrev pub AreNamed : List StagingStep → (current next : List AppSources)
+    → (named : List (List ℕ)) → Type 0
+AreNamed steps current next named = All (IsLiftNamed current next named) steps
+
+-- the same of one more step, and of no fewer apps
+pub record NamesMore (step : StagingStep) (current next : List AppSources)
+    (old new : List (List ℕ)) : Type 0 where
+  pub kept : (appid : List ℕ) → is_named old appid ≡ true → is_named new appid ≡ true
+  pub named : IsLiftNamed current next new step

@@ -1,8 +1,6 @@
-//! Which halts are in force, and which of them another manifest may lift.
+//! Which halts of apps are in force, and when another manifest may lift one.
 
 ghost use Rattle.std.specs.Prelude.{◌≡◌, option_copied};
-ghost use Rattle.std.specs.List.{list_any};
-ghost use Rattle.std.specs.Str.{bytes_eq};
 ghost use Rattle.stage_rules.specs.InForce as specs;
 
 use crate::halting::is_halting_file;
@@ -10,7 +8,7 @@ use load::{AppSources, whole_file};
 use stage_records::{StagingStep, StepAction};
 
 /// The app that a step halts, unless the step is undone.
-pub(crate) fn halted_app(step: &StagingStep) -> Option<&str>
+pub fn halted_app(step: &StagingStep) -> Option<&str>
     ensures { option_copied result ≡ specs.halted_app step.now }
 {
     if step.is_undone {
@@ -73,8 +71,7 @@ pub fn surely_offers(apps: &[AppSources], appid: &str) -> bool
 }
 
 fn has_halt(steps: &[StagingStep], appid: &str) -> bool
-    ensures { result ≡ list_any (λ halted. bytes_eq halted appid.now)
-        (specs.halted_apps steps.now) }
+    ensures { result ≡ specs.is_named (specs.halted_apps steps.now) appid.now }
 {
     let mut left = steps;
     while let [step, others @ ..] = left {
@@ -97,24 +94,10 @@ pub fn is_in_force(steps: &[StagingStep], apps: &[AppSources], appid: &str) -> b
     has_halt(steps, appid) && !surely_offers(apps, appid)
 }
 
-/// The app of the first halt that the next manifest may lift: it isn't surely offered by the
+/// Whether the next manifest may lift the halt of an app: the app isn't surely offered by the
 /// current one, and may be by the next.
-pub fn lifted_halt<'a>(
-    steps: &'a [StagingStep],
-    current: &[AppSources],
-    next: &[AppSources],
-) -> Option<&'a str>
-    ensures { option_copied result ≡ specs.lifted_halt steps.now current.now next.now }
+pub(crate) fn lifts(current: &[AppSources], next: &[AppSources], appid: &str) -> bool
+    ensures { result ≡ specs.lifts current.now next.now appid.now }
 {
-    let mut left = steps;
-    while let [step, others @ ..] = left {
-        if let Some(appid) = halted_app(step)
-            && !surely_offers(current, appid)
-            && may_offer(next, appid)
-        {
-            return Some(appid);
-        }
-        left = others;
-    }
-    None
+    !surely_offers(current, appid) && may_offer(next, appid)
 }

@@ -1,10 +1,13 @@
-//! Whether another manifest lifts a halt, of an app or of a release.
+//! Which halts another manifest may lift, of apps and of releases.
 
-ghost use Rattle.std.specs.Prelude.{◌≡◌, All, IfNone, IfOk, None, false, option_copied};
+ghost use Rattle.std.specs.Prelude.{◌≡◌, IfOk, OnOk, false, map, string_bytes};
 ghost use Rattle.stage_rules.specs.Lifting as specs;
+ghost use Rattle.stage_rules.specs.Lifting.{AreNamed, NamesMore};
 
-use crate::halt::lifted_halt;
+use crate::halt::lifts;
+use crate::halt_of_app::app_of_any_halt;
 use crate::known_offers::known_among;
+use crate::named_apps::push_once;
 use load::AppSources;
 use stage_records::{StagingStep, StepAction};
 use std::alloc::{AllocError, Global};
@@ -29,7 +32,7 @@ fn offers_again(
     }
 }
 
-// Whether the next manifest may lift a step's halt of a release.
+// Whether the next manifest may lift a step's halt.
 fn may_lift(
     alloc: Global,
     step: &StagingStep,
@@ -37,66 +40,64 @@ fn may_lift(
     next: &[AppSources],
 ) -> Result<bool, AllocError>
     ensures { IfOk result (λ lifts. lifts ≡ false
-        → specs.StaysHalted current.now next.now (specs.halted_version step.now)) }
+        → specs.StaysHalted current.now next.now (specs.action_in_force step.now)) }
 {
     if step.is_undone {
         return Ok(false);
     }
     match &step.action {
+        StepAction::Halt { appid } => Ok(lifts(current, next, appid.as_str())),
         StepAction::HaltRelease { appid, version } => {
             offers_again(alloc, appid.as_str(), version.as_str(), current, next)
         }
-        StepAction::Halt { .. } => Ok(false),
         StepAction::Raise { .. } | StepAction::Resume { .. } | StepAction::Put { .. } => Ok(false),
     }
 }
 
-// The app of a step's halt of a release.
-fn app_of_release(step: &StagingStep) -> Option<&str> {
-    match &step.action {
-        StepAction::HaltRelease { appid, .. } => Some(appid.as_str()),
-        _ => None,
+// Adds the app of a step's halt, if the next manifest may lift that.
+#[tactic(auto, using(crate::proofs::Named::one_step))]
+fn push_lifted(
+    alloc: Global,
+    step: &StagingStep,
+    current: &[AppSources],
+    next: &[AppSources],
+    named: &mut Vec<String>,
+) -> Result<(), AllocError>
+    ensures { OnOk result (NamesMore step.now current.now next.now
+        (map string_bytes named.old.items) (map string_bytes named.new.items)) }
+{
+    if !may_lift(alloc, step, current, next)? {
+        return Ok(());
+    }
+    match app_of_any_halt(&step.action) {
+        None => Ok(()),
+        Some(appid) => match push_once(alloc, named, appid) {
+            Ok(()) => Ok(()),
+            Err(_) => Err(AllocError),
+        },
     }
 }
 
-// The first step whose halt of a release the next manifest may lift.
-fn lifted_release<'a>(
+/// The apps of the halts that the next manifest may lift, each once, in the order of the first of
+/// these. The halt of an app is lifted if the current manifest doesn't surely offer the app, and
+/// the next one may; that of a release if the rules so offer the release. Returns an error if an
+/// allocation fails.
+// open: whether an allocation fails; that no other app is named, and the order: rows.
+#[tactic(auto, using(crate::proofs::Named::each_step))]
+pub fn lifted_apps(
     alloc: Global,
-    steps: &'a [StagingStep],
+    steps: &[StagingStep],
     current: &[AppSources],
     next: &[AppSources],
-) -> Result<Option<&'a StagingStep>, AllocError>
-    ensures { IfOk result (λ lifted. IfNone lifted (All (λ step.
-        specs.StaysHalted current.now next.now (specs.halted_version step)) steps.now)) }
+) -> Result<Vec<String>, AllocError>
+    ensures { IfOk result (λ named. AreNamed steps.now current.now next.now
+        (map string_bytes named.items)) }
 {
+    let mut named = Vec::new(alloc);
     let mut left = steps;
     while let [step, others @ ..] = left {
-        if may_lift(alloc, step, current, next)? {
-            return Ok(Some(step));
-        }
+        push_lifted(alloc, step, current, next, &mut named)?;
         left = others;
     }
-    Ok(None)
-}
-
-/// The app of a halt that the next manifest may lift: it isn't surely offered by the current one,
-/// and may be by the next. The same of a halted release, for which both rules are read.
-// open: whether an allocation fails, which is its one error; that a halt which isn't lifted isn't
-// named, and which app is: rows.
-pub fn lifted_app<'a>(
-    alloc: Global,
-    steps: &'a [StagingStep],
-    current: &[AppSources],
-    next: &[AppSources],
-) -> Result<Option<&'a str>, AllocError>
-    ensures { IfOk result (λ lifted. option_copied lifted ≡ None
-        → specs.LiftsNothing steps.now current.now next.now) }
-{
-    if let Some(appid) = lifted_halt(steps, current, next) {
-        return Ok(Some(appid));
-    }
-    match lifted_release(alloc, steps, current, next)? {
-        Some(step) => Ok(Some(app_of_release(step).unwrap_or(""))),
-        None => Ok(None),
-    }
+    Ok(named)
 }

@@ -1,46 +1,21 @@
 -- The apps whose halts are in force, one step after the other.
-use Rattle.std.proofs.Common.{◌≡◌, ◌∙◌, ap, refl, subst, sym, ℕ, List, [], ◌∷◌, ◌++◌}
+use Rattle.std.proofs.Common.{◌≡◌, ◌∙◌, ap, refl, subst, sym, ℕ, List, [], ◌∷◌}
 use Rattle.std.proofs.Common.{Bool, true, false}
 use Rattle.std.specs.Prelude.{◌&&◌, ◌||◌, not, Option, Some, None}
 use Rattle.std.specs.List.{list_any, cons_option}
 use Rattle.std.specs.Str.{bytes_eq}
-use Rattle.std.proofs.lemmas.List.Folds.{list_any-append}
 use Rattle.std.proofs.lemmas.Slice.Eq.{bytes_eq-Decides}
-use Rattle.std.proofs.Math.Bool.{or-false}
 use Rattle.bounded_files.specs.Files.{KnownFiles}
-use Rattle.load.specs.Loaded.{RefusesPath}
-use Rattle.load.specs.declared.load_fault.PathFault.{PathFault}
 use Rattle.load.specs.declared.opened.CollectedManifest.{CollectedManifest}
 use Rattle.load.specs.declared.sources.AppSources.{AppSources}
 use Rattle.stage_folder.specs.Folders.{KnownRecords}
 use Rattle.stage_folder.specs.declared.records.RecordedSteps.{RecordedSteps}
 use Rattle.stage_records.specs.Steps.{StagingStep}
-use Rattle.stage_rules.specs.InForce.{halted_app, halted_apps, is_in_force, surely_offers}
+use Rattle.stage_rules.specs.InForce.{HasOneMore, halted_app, halted_apps, is_in_force, is_named}
+use Rattle.stage_rules.specs.InForce.{surely_offers}
+use Rattle.stage_servers.specs.Gathered.{IsGathered}
 use Rattle.stage_servers.specs.Halted.{AreHaltedIn, AreInForce, AreInForceUnder, HasHaltOf}
-use Rattle.stage_servers.specs.Halted.{HasOneMore, IsInPlace, is_named}
 use Rattle.stage_servers.specs.Whole.{AreAllRead}
-
--- ---- one more app
-
-pub pushed : (appid : List ℕ) (old new : List (List ℕ)) → new ≡ old ++ appid ∷ []
-    → HasOneMore appid old new
-pushed appid old new is = λ other. ap (λ names. is_named names other) is
-    ∙ list_any-append (λ one. bytes_eq one other) old (appid ∷ [])
-    ∙ ap (λ e. is_named old other || e) (or-false (bytes_eq appid other))
-
-named_then : (appid other : List ℕ) (names : List (List ℕ)) (same : Bool)
-    → bytes_eq appid other ≡ same → is_named names appid ≡ true
-    → is_named names other ≡ (is_named names other || same)
-named_then appid other names true is has =
-    let named : is_named names other ≡ true =
-    ap (λ a. is_named names a) (sym ((bytes_eq-Decides appid other).0 is)) ∙ has in
-    named ∙ ap (λ n. n || true) (sym named)
-named_then appid other names false is has = sym (or-false (is_named names other))
-
-pub named : (appid : List ℕ) (names : List (List ℕ)) → is_named names appid ≡ true
-    → HasOneMore appid names names
-named appid names has = λ other.
-    named_then appid other names (bytes_eq appid other) refl has
 
 -- ---- the app of a step's halt
 
@@ -151,13 +126,9 @@ pub ruleset each_step = (begins, further, ended)
 
 -- ---- the records and the manifest in place
 
-pub refused : (known : KnownFiles) (current : List ℕ) (fault : PathFault)
-    → RefusesPath known current [] fault → IsInPlace known current None
-refused known current fault is = (fault, is)
-
 pub are_halted : (known : KnownFiles) (current : List ℕ) (records : KnownRecords)
     (recorded : RecordedSteps) (present : Option CollectedManifest) (named : List (List ℕ))
-    → AreAllRead records recorded → IsInPlace known current present
+    → AreAllRead records recorded → IsGathered known current present
     → AreInForceUnder recorded.steps.items present named
     → AreHaltedIn known current records named
 are_halted known current records recorded present named read is force = record {

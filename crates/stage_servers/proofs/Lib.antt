@@ -1,3 +1,4 @@
+mod NotGathered
 mod GoesOn
 mod Halted
 mod Ports

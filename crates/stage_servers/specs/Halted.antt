@@ -1,11 +1,6 @@
 -- The halted apps that an action may have the servers offer again.
 use Rattle.std.specs.Prelude.{◌≡◌, ◌||◌, ℕ, List, [], ◌∷◌, Bool, true, false, Option, Some, None}
-use Rattle.std.specs.List.{list_any}
-use Rattle.std.specs.Str.{bytes_eq}
 use Rattle.bounded_files.specs.Files.{KnownFiles}
-use Rattle.load.specs.Loaded.{RefusesPath}
-use Rattle.load.specs.Opened.{IsCollected}
-use Rattle.load.specs.declared.load_fault.PathFault.{PathFault}
 use Rattle.load.specs.declared.opened.CollectedManifest.{CollectedManifest}
 use Rattle.load.specs.declared.sources.AppSources.{AppSources}
 use Rattle.stage_folder.specs.Folders.{KnownRecords}
@@ -13,22 +8,14 @@ use Rattle.stage_folder.specs.declared.records.RecordedSteps.{RecordedSteps}
 use Rattle.stage_records.specs.Steps.{StagingStep}
 use Rattle.stage_records.specs.declared.action.StageAction.{StageAction}
 use Rattle.stage_records.specs.declared.action.StageAction.TheVariants as action
-use Rattle.stage_rules.specs.InForce.{is_in_force}
+use Rattle.stage_rules.specs.InForce.{is_in_force, is_named}
+use Rattle.stage_servers.specs.Gathered.{IsGathered}
 use Rattle.stage_servers.specs.Whole.{AreAllRead}
-
--- an app is among these
-abbrev pub is_named : List (List ℕ) → (appid : List ℕ) → Bool
-is_named appids appid = list_any (λ one. bytes_eq one appid) appids
 
 -- the servers may halt an app: they list it, or nobody knows which they halt
 abbrev pub may_halt : (listed : Option (List (List ℕ))) → (appid : List ℕ) → Bool
 may_halt None appid = true
 may_halt (Some listed) appid = is_named listed appid
-
--- the manifest in place, gathered with its files; none if it can't be gathered
-abbrev pub IsInPlace : KnownFiles → (current : List ℕ) → Option CollectedManifest → Type 0
-IsInPlace known current (Some manifest) = IsCollected known current manifest
-IsInPlace known current None = (fault : PathFault) × RefusesPath known current [] fault
 
 -- an app is among these exactly if its halt is in force: a step halted it and isn't undone, and
 -- this manifest doesn't surely offer it
@@ -49,7 +36,7 @@ pub record AreHaltedIn (known : KnownFiles) (current : List ℕ) (records : Know
   pub recorded : RecordedSteps
   pub are_read : AreAllRead records recorded
   pub present : Option CollectedManifest
-  pub is_present : IsInPlace known current present
+  pub is_present : IsGathered known current present
   pub in_force : AreInForceUnder recorded.steps.items present named
 
 -- the same with `--anyway`, and no app without it
@@ -59,7 +46,7 @@ AreHaltedIf true known current records named = AreHaltedIn known current records
 AreHaltedIf false known current records named = named ≡ []
 
 -- the apps that an action may have the servers offer again: for a put and for `back` those whose
--- halts are in force, but none without `--anyway`; for a resume its own, and else none
+-- halts are in force, but none without `--anyway`; for a resume its own, and else none by this list
 abbrev pub MayEndHalts : StageAction → (anyway : Bool) → KnownFiles → (current : List ℕ)
     → KnownRecords → (named : List (List ℕ)) → Type 0
 MayEndHalts (action.Put manifest) anyway known current records named =
@@ -71,11 +58,6 @@ MayEndHalts (action.Resume appid buckets) anyway known current records named =
 MayEndHalts other anyway known current records named = named ≡ []
 
 -- ---- one step after the other
-
--- one more app is among these
-abbrev pub HasOneMore : (appid : List ℕ) → (old new : List (List ℕ)) → Type 0
-HasOneMore appid old new =
-    (other : List ℕ) → is_named new other ≡ (is_named old other || bytes_eq appid other)
 
 -- the app of this step's halt, if that is in force
 abbrev pub HasHaltOf : StagingStep → (current : List AppSources) → (old new : List (List ℕ))

@@ -1,5 +1,5 @@
 -- What servers serve.
-use Rattle.std.specs.Prelude.{◌≡◌, ℕ, List, Bool, Option, Some, None}
+use Rattle.std.specs.Prelude.{◌≡◌, ℕ, List, length, Bool, true, Option, Some, None}
 use Rattle.load.specs.Digest.{digest_of}
 use Rattle.load.specs.declared.opened.CollectedManifest.{CollectedManifest}
 
@@ -12,7 +12,10 @@ abbrev pub IsGatheredAs : (digest : List ℕ) → Option CollectedManifest → T
 IsGatheredAs digest (Some manifest) = HasDigest digest manifest
 IsGatheredAs digest None = ⊥
 
--- what the servers serve is known, by what they say, or by a log; or none has to reply
-abbrev pub IsKnown : (servers log : Option Bool) → Type 0
-IsKnown None None = ⊥
-IsKnown servers log = Unit {0}
+-- the servers are known to serve what is in place, by what they say, and by a log, if there is one;
+-- or by the log of the only one. None has to reply without a load: it counts as said then
+abbrev pub AreServed : (servers log : Option Bool) → (ports : List ℕ) → Type 0
+AreServed None None ports = ⊥
+AreServed None (Some logged) ports = (logged ≡ true) × (length ports ≡ 1)
+AreServed (Some known) None ports = known ≡ true
+AreServed (Some known) (Some logged) ports = (known ≡ true) × (logged ≡ true)

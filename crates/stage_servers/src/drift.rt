@@ -155,10 +155,10 @@ where
     }
 }
 
-/// Stops before anything is changed, if a server serves neither what is in place nor what the last
-/// step left: unless `--anyway` is given, or `--other-server` if it has another app. A halt never
-/// stops, not even if memory runs out. Nor does undoing a step that the server doesn't serve yet,
-/// as one that stopped in its middle.
+/// Stops before anything is changed, if a server says that it serves neither what is in place nor
+/// what the last step left: unless `--anyway` is given, or `--other-server` if it has another app.
+/// A halt never stops, not even if memory runs out. Nor does `back` at a server that serves the
+/// step before the one to undo.
 // open: whether an allocation fails, and that a stop is a refusal: rows.
 #[tactic(auto, using(crate::proofs::GoesOn::some_stops))]
 pub fn stop_if_drifted<R, D>(

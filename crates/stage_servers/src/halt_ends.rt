@@ -6,12 +6,12 @@
 ghost use Rattle.std.specs.Prelude.{◌≡◌, map, option_copied, option_map, string_bytes};
 ghost use Rattle.stage_servers.specs.Halted as specs;
 
-use crate::halts_in_force::is_named;
 use crate::outcome::Lines;
 use crate::server_halts::push_done;
 use operator::{RequestFault, ask_server};
 use operator_request::OperatorRequest;
 use printing::TextBuffer;
+use stage_rules::is_named;
 use std::net::{Net, TcpStream};
 
 // Has the server at a port offer an app again. Returns whether it does. An older server has halted
@@ -91,10 +91,11 @@ where
     true
 }
 
-// Adds why a server still halts an app, and what to do.
+// Adds why a server may still halt an app, and what to do.
 fn push_still_halted(text: &mut TextBuffer, port: u16, appid: &str, fault: RequestFault) {
     text.push_number("server at ", port as u64, ": refused ");
     text.push_value(&fault);
-    text.push_printed(": ", appid, " stays halted there: call rollout resume\n");
+    text.push_printed(": ", appid, " may stay halted there: ");
+    text.push_printed("call rollout resume ", appid, "\n");
     drop(fault);
 }

@@ -6,12 +6,14 @@
 
 // How it works. A halt is sent to the servers before a file is read (`server_halts.rt`). Each
 // server's state is compared with the recorded steps (`surveying.rt`), by the digest of what a step
-// left (`earlier_files.rt`). An action but a halt stops if a server serves neither what is in place
-// nor what the last step left (`drift.rt`), or at an edited file, if it looks at the files
-// (`edits.rt`). Once the files are changed, each server loads the manifest (`loads.rt`), and then
-// offers those apps again (`halt_ends.rt`) whose recorded halts were in force before, and which
-// these files surely offer (`lifted_halts.rt`). Its reply is noted (`load_notes.rt`), by which a
-// status knows what an older server serves (`servers.rt`).
+// left (`earlier_files.rt`). An action but a halt stops if a server says that it serves neither
+// what is in place nor what the last step left, nor for `back` what the step before it left
+// (`drift.rt`). It also stops at an edited file, if it looks at the files (`edits.rt`). Once the
+// files are changed, each server loads the manifest (`loads.rt`), but one that is spared
+// (`spared_servers.rt`). Then it offers those apps again (`halt_ends.rt`) which these files surely
+// offer (`lifted_halts.rt`): of a resume its own, of a put and `back` with `--anyway` those whose
+// recorded halts were in force before. Its reply is noted (`load_notes.rt`), by which a status
+// knows what an older server serves (`servers.rt`).
 //
 // A server's replies are its own. What is known of files is what `load` gathers.
 
@@ -24,6 +26,8 @@ mod drift;
 mod earlier_files;
 mod edit_texts;
 mod edits;
+mod gathered;
+mod halt_advice;
 mod halt_ends;
 mod halted_app;
 mod halts_in_force;
@@ -55,6 +59,7 @@ pub use collected::{app_named, collected_at};
 pub use drift::{push_serves, stop_if_drifted};
 pub use earlier_files::{collected_as, collected_with, files_left};
 pub use edits::stop_if_edited;
+pub use gathered::{collected_now, precedes_files};
 pub use halted_app::halted_appid;
 pub use history::push_history;
 pub use lifted_halts::{apps_halted, apps_lifted};

@@ -2,6 +2,7 @@
 
 // No contract says what is printed or noted: bench/outside tests it.
 
+use crate::halt_advice::{push_refused, push_unloaded};
 use crate::halt_ends::{offer_others_at, resume_at};
 use crate::load_notes::read_notes;
 use crate::options::StageCall;
@@ -69,18 +70,6 @@ fn is_complete(loads: &Loads) -> bool {
     loads.refused.is_empty() && !loads.has_left_out
 }
 
-// Adds the ports of the servers of which no reply says that they loaded the manifest, if there are
-// any, and what to do.
-fn push_refused(stderr: &mut TextBuffer, refused: &str, manifest: &str) {
-    if refused.is_empty() {
-        return;
-    }
-    stderr.push("stage: not loaded at");
-    stderr.push(refused);
-    let advice = "; the files are in place: mend that, and then call rollout load ";
-    stderr.push_printed(advice, manifest, "\n");
-}
-
 // Adds that an app stays halted if a halt of one release isn't loaded.
 fn push_stays(stderr: &mut TextBuffer, action: &StageAction<'_>) {
     if let StageAction::HaltRelease { appid, version } = *action {
@@ -131,7 +120,8 @@ where
 }
 
 /// Has each server load the manifest, whatever the others do, but for one that is spared, and then
-/// offer these apps again, whose halts are lifted. Returns whether all did, or none is to load.
+/// offer these apps again, whose halts are lifted. Returns whether all did, or none is to load. For
+/// `--no-load` it says what to call, if a halt is lifted. For `--dry-run` no app is to be given.
 // open: what a server does, and what is printed or noted: bench/outside.
 pub fn load_all<R, D, F>(
     call: &StageCall<'_, R, D>,
@@ -146,6 +136,7 @@ where
     F: StageFolder,
 {
     if call.options.no_load || call.options.dry_run {
+        push_unloaded(&mut lines.stderr, lifted);
         return true;
     }
     let collected = collect_manifest(call.rt.alloc(), call.disk, call.manifest).ok();
@@ -154,7 +145,12 @@ where
     match each {
         Ok(loads) if is_complete(&loads) => loads.are_resumed,
         Ok(loads) => {
-            push_refused(&mut lines.stderr, loads.refused.as_str(), call.manifest);
+            push_refused(
+                &mut lines.stderr,
+                loads.refused.as_str(),
+                call.manifest,
+                lifted,
+            );
             push_stays(&mut lines.stderr, action);
             false
         }

@@ -19,7 +19,8 @@ pub struct StageOptions<'a> {
     pub because: Option<&'a str>,
     /// Whether no server loads the manifest.
     pub no_load: bool,
-    /// Whether nothing is changed, and only printed what would be.
+    /// Whether no file, record or server is changed, but `.stage/at_work`, and only printed what
+    /// would be.
     pub dry_run: bool,
     /// Whether it continues if a release would be lost, a halt lifted, or another app also changed,
     /// if a server serves something else than is in place, or if a file was edited, but one of the

@@ -11,7 +11,7 @@ use std::alloc::Global;
 /// The name of the folder of the records, as it is printed.
 pub const RECORDS: &str = ".stage";
 
-/// A refusal with this sentence.
+/// A refusal with this sentence; or `Memory`, if an allocation failed.
 // open: what the sentence is: bench/outside.
 pub fn refusal(text: TextBuffer) -> Stop
     ensures { MayBeUnchanged result }
@@ -22,7 +22,7 @@ pub fn refusal(text: TextBuffer) -> Stop
     }
 }
 
-/// A refusal in these words.
+/// A refusal in these words; or `Memory`, if an allocation failed.
 // open: what the sentence is: bench/outside.
 pub fn refused(alloc: Global, sentence: &str) -> Stop
     ensures { MayBeUnchanged result }
@@ -32,7 +32,8 @@ pub fn refused(alloc: Global, sentence: &str) -> Stop
     refusal(text)
 }
 
-/// A refusal of something with this name: what follows the name in the sentence.
+/// A refusal of something with this name: what follows the name in the sentence; or `Memory`, if an
+/// allocation failed.
 // open: what the sentence is: bench/outside.
 pub fn refusal_of(alloc: Global, name: &str, rest: &str) -> Stop
     ensures { MayBeUnchanged result }

@@ -4,7 +4,7 @@
 
 ghost use Rattle.std.specs.Prelude.{◌≡◌, All, IfOk, true};
 ghost use Rattle.stage_folder.specs.Recorded.{AreRecorded};
-ghost use Rattle.stage_servers.specs.Served.{IsKnown};
+ghost use Rattle.stage_servers.specs.Served.{AreServed};
 ghost use Rattle.stage_servers.specs.Whole.{AreAsLeft, IsAsLeft, IsWhole};
 
 use crate::app_status::{Standing, push_apps};
@@ -112,7 +112,7 @@ fn push_last<F: StageFolder>(folder: &F, steps: &[StagingStep], stderr: &mut Tex
 // Whether the servers serve what is in place, by what is known of them, and by a log, if one is
 // named: it is the log of one server.
 fn are_served(servers: Option<bool>, log: Option<bool>, ports: &[u16]) -> bool
-    ensures { result ≡ true → IsKnown servers log }
+    ensures { result ≡ true → AreServed servers log ports.now }
 {
     match (servers, log) {
         (Some(known), Some(logged)) => known && logged,

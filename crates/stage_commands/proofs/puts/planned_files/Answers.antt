@@ -1,4 +1,4 @@
-use Rattle.std.proofs.Common.{option_copied}
+use Rattle.std.proofs.Common.{map, string_bytes}
 use Rattle.stage_commands.proofs.PutPlan.{lifts_none, plans}
 use Rattle.stage_commands.proofs.puts.planned_files.Goals as goal
 
@@ -15,6 +15,6 @@ returns g c =
     c.args.call.now.options.now.anyway c.in_ok-files.files.items next c.in_ok-next.ensures
     (record { judged = c.in_ok-next-2.next; is_judged = judged }) are
     (λ plain. lifts_none known current folder c.args.steps.now c.present_manifest-present.result
-    next.sources.apps.items (option_copied c.in_ok-lifted.lifted)
+    next.sources.apps.items (map string_bytes c.in_ok-lifted.lifted.items)
     c.present_manifest-present.ensures (c.in_ok-compare_next.ensures plain) by
     (c.in_ok-stop_if_lifted.ensures plain))

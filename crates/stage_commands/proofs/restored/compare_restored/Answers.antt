@@ -1,4 +1,4 @@
-use Rattle.std.proofs.Common.{ap, subst, option_copied}
+use Rattle.std.proofs.Common.{ap, map, string_bytes, subst}
 use Rattle.stage_commands.specs.Befores.{WasGathered}
 use Rattle.stage_commands.proofs.Then.{undoing_lifts_none}
 use Rattle.stage_commands.proofs.restored.compare_restored.Goals as goal
@@ -13,5 +13,5 @@ returns-in_ok-compare_if-in-Ok-stop_if_lifted g c = λ plain.
     (ap (λ s. s.files) c.step.view_is)
     (rw c.deref.ensures.value at c.in-Ok-collected_before.ensures) in
     undoing_lifts_none known current c.args.steps.now c.args.step.now c.in-Ok.present before
-    (option_copied c.in-Ok-lifted_by_undoing.lifted) c.in-Ok-lifted_by_undoing.ensures
+    (map string_bytes c.in-Ok-lifted_by_undoing.lifted.items) c.in-Ok-lifted_by_undoing.ensures
     c.in-Ok.ensures was (c.in-Ok-stop_if_lifted.ensures plain)

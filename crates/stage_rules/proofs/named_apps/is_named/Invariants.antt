@@ -1,6 +1,6 @@
 use Rattle.std.proofs.Common.{◌≡◌, length, map, string_bytes}
-use Rattle.stage_servers.specs.Halted as specs
-use Rattle.stage_servers.proofs.halts_in_force.is_named.Given as goal
+use Rattle.stage_rules.specs.InForce as specs
+use Rattle.stage_rules.proofs.named_apps.is_named.Given as goal
 
 -- what is left decides
 abbrev pub invariant-loop-left : goal.invariant-loop-left
