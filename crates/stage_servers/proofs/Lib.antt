@@ -1,6 +1,7 @@
-mod NotGathered
+mod Earlier
 mod GoesOn
 mod Halted
+mod NotGathered
 mod Ports
 mod Then
 mod Whole

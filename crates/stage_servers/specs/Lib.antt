@@ -1,5 +1,6 @@
 pub mod Apps
 pub mod Drift
+pub mod Earlier
 pub mod Gathered
 pub mod Halted
 pub mod Ports
