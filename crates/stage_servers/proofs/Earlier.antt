@@ -1,7 +1,8 @@
 -- Files of steps, each name once.
-use Rattle.std.proofs.Common.{◌≡◌, ◌∙◌, ◌<◌, ◌≤◌, ◌-◌, refl, sym, ap, ap₂, arith, subst, ℕ, List, [], ◌∷◌, ◌++◌}
-use Rattle.std.proofs.Common.{append_assoc, Bool, true, false, Option, Some, None, flat_map, reverse}
-use Rattle.std.proofs.Common.{◌+◌, drop, get_or, length, slice_index_or, take}
+use Rattle.std.proofs.Common.{◌≡◌, ◌∙◌, refl, sym, ap, ap₂, subst, arith}
+use Rattle.std.proofs.Common.{ℕ, ◌+◌, ◌-◌, ◌<◌, ◌≤◌, Bool, true, false, Option, Some, None}
+use Rattle.std.proofs.Common.{List, [], ◌∷◌, ◌++◌, append_assoc, flat_map, reverse}
+use Rattle.std.proofs.Common.{drop, get_or, length, slice_index_or, take}
 use Rattle.std.specs.Prelude.{find, is_some, if◌then◌else◌}
 use Rattle.std.specs.Option.{option_or}
 use Rattle.std.proofs.lemmas.List.{drop_all, reverse-append, take_all, take_more}
@@ -135,9 +136,10 @@ all_three a b c one two three first second third name =
     ∙ ap (λ (l : List ReplacedFile). file_named l name) (append_assoc a b c)
 
 -- by the parts of the steps
-pub all_at : (steps : List StagingStep) (first count : ℕ) (done later earlier run : List StagingStep)
-    (zero one two three : List ReplacedFile) → done ≡ take count steps → later ≡ drop count steps
-    → earlier ≡ take first done → run ≡ drop first done → zero ≡ []
+pub all_at : (steps : List StagingStep) (first count : ℕ)
+    (done later earlier run : List StagingStep) (zero one two three : List ReplacedFile)
+    → done ≡ take count steps → later ≡ drop count steps → earlier ≡ take first done
+    → run ≡ drop first done → zero ≡ []
     → AreNamedAs one (zero ++ flat_map files_left (reverse run))
     → AreNamedAs two (one ++ flat_map (files_if_done false) later)
     → AreNamedAs three (two ++ flat_map (files_if_done true) (reverse earlier))

@@ -6,7 +6,8 @@ use Rattle.stage_servers.proofs.earlier_files.add_left.Given as goal
 abbrev pub invariant-loop-count : goal.invariant-loop-count
 invariant-loop-count l = record {
   within : l.count ≤ length l.steps;
-  named : AreNamedAs (l.files.items ++ flat_map (files_if_done true) (reverse (take l.count l.steps)))
+  named : AreNamedAs
+      (l.files.items ++ flat_map (files_if_done true) (reverse (take l.count l.steps)))
       (l.fn.files.items ++ flat_map (files_if_done true) (reverse l.steps));
 }
 
