@@ -129,7 +129,8 @@ def of_another(program, folder):
 
 
 def in_use(program, folder):
-    """One server at a time has a file; the others are refused by K1, at once or after a second."""
+    """One server at a time has a file; the others are refused by K1, at once or after a second. One
+    that waits prints which process has it, if its lock says so."""
     rig = Rig(program, folder, 500)
     with opened(rig.server()) as server:
         for _ in range(10):
@@ -137,12 +138,17 @@ def in_use(program, folder):
         rig.options = ["--wait-counters", "1"]
         if rig.refused("K1 InUse") < 1:
             raise Wrong("a server that waits a second doesn't")
-        if int(rig.file.with_name("counters.lock").read_text()) != server.process.pid:
+        lock = rig.file.with_name("counters.lock")
+        if int(lock.read_text()) != server.process.pid:
             raise Wrong("the lock names another process")
+        lock.write_text("")
+        done = subprocess.run(rig.server().words, capture_output=True, text=True, timeout=60)
+        if "waiting for counters: another process has them\n" not in done.stderr:
+            raise Wrong(f"a lock without a number: {done.stderr}")
         rig.take(server)
         rig.stopped(server)
     rig.exact()
-    return "11 others, by K1"
+    return "12 others, by K1"
 
 
 def leftovers(program, folder):

@@ -5,6 +5,7 @@ Each check returns nothing, or what was wrong. If a command isn't installed, the
 with that name.
 """
 import contextlib
+import fcntl
 import json
 import os
 import re
@@ -198,6 +199,11 @@ def wrong_report(day):
     for _ in range(2):
         if (printed := day.run("rollout report part.log --state now.state")) != whole:
             return f"report --state: {printed}"
+    with open(day.folder / "now.state") as state:
+        fcntl.flock(state, fcntl.LOCK_EX)
+        printed = day.run("rollout report part.log --state now.state")
+        if not printed.startswith("1 refused B10 Locked\n"):
+            return f"report --state, while another has it: {printed}"
     if printed := day.run("rollout report server.log --since 2007-01-01T00:00:00Z --until 1d"):
         is_empty = printed.startswith("lines\n0\tcounted\n")
         return None if is_empty else f"report --until 1d: {printed}"

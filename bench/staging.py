@@ -56,6 +56,9 @@ class Stage(Day):
     def bytes(self, name):
         return (self.folder / name).read_bytes()
 
+    def text(self, name):
+        return self.bytes(name).decode()
+
     def stage(self, words):
         """The output of a call, and then its status and errors if it isn't 0."""
         return self.run(f"rollout stage {words} --folder /etc/rollout")
@@ -174,15 +177,15 @@ def what_is_served(folder):
 
 
 @contextlib.contextmanager
-def older():
-    """The operator's port of a server without `state`, `halt` and `resume`: the other words are
-    those of the server at 18098."""
+def older(lacking=(b"state", b"halt", b"resume"), refusal=b"refused B1 Word\n"):
+    """The operator's port of a server without some words: the others are those of the server at
+    18098."""
 
     class Handler(socketserver.StreamRequestHandler):
         def handle(self):
             line = self.rfile.readline()
-            if line.split()[0] in (b"state", b"halt", b"resume"):
-                self.wfile.write(b"refused B1 Word\n")
+            if line.split()[0] in lacking:
+                self.wfile.write(refusal)
                 return
             with socket.create_connection(("127.0.0.1", 18098)) as server:
                 server.sendall(line)
@@ -199,7 +202,8 @@ def older():
 
 def older_server(folder):
     """Of an older server a status knows the last load by `stage`. If another command loaded, the
-    status says so, and the server's log decides. A halt is there by its load."""
+    status says so, and the server's log decides. A halt is there by its load. A page of a report
+    has its counters only."""
     it = Stage(folder / "older")
     unsure = "the apps in place; only its log shows which rules it loaded (--log LOG)\n"
     with it.served(), older() as port:
@@ -213,8 +217,32 @@ def older_server(folder):
             ("stage status", 1, f"generation 3, {unsure}"),
             ("stage status --log server.log", 0, "what is in place was loaded last\n"),
             ("stage halt editor 2>&1", 0, "it is older, and halts editor by a load alone\n"),
+            ("report server.log --html page.html", 0, ""),
         )
-        return wrong_served(it, [(f"{words} --operator {port}", *more) for words, *more in calls])
+        if w := wrong_served(it, [(f"{words} --operator {port}", *more) for words, *more in calls]):
+            return w
+        if f"at {port} is an older one, and says only its counters. " not in it.text("page.html"):
+            return "the page doesn't say that the server is older"
+
+
+def halts_left(folder):
+    """A server that loads the files, but doesn't end the app's halt, is named."""
+    it = Stage(folder / "left")
+    with it.served(), older([b"resume"], b"refused B8 App\n") as port:
+        it.stage(f"halt editor --operator {port}")
+        printed = it.stage(f"resume editor --operator {port}")
+        wanted = "refused B8 App: editor may stay halted there: call rollout resume editor\n"
+        if f"1 server at {port}: {wanted}" not in printed:
+            return printed
+
+
+def unread_files(folder):
+    """A page says how many apps' files aren't read, once those before have over 64 MiB in all."""
+    apps = [(f'[[app]]\nappid = "a{n}"', 'rule = "long.rule"') for n in range(12)]
+    it = Stage(folder / "long", apps, **{"long.rule": bytes(1 << 23), "some.log": ""})
+    it.run(f"rollout report some.log --html page.html --folder {it.folder}")
+    if "of 3 further apps aren&#39;t read: those before are too long" not in it.text("page.html"):
+        return "the page doesn't say which files aren't read"
 
 
 def other_manifest(folder):
@@ -244,6 +272,10 @@ def other_manifest(folder):
         hint = f"rollout check {it.folder}/wrong.toml prints the place and the reason"
         if printed != f"1 refused M2 Field\n{hint}\n":
             return f"a refused load: {printed!r}"
+        with older([b"load"], b"refused B3 File\n") as port:
+            printed = it.run(f"rollout load /etc/rollout/current.toml --operator {port}")
+        if printed != "1 refused B3 File\nthe server's user can't read what this one can\n":
+            return f"a load that only the server's user can't read: {printed!r}"
     if "Usage: rollout stage " not in (printed := it.run("rollout stage --help")):
         return printed
 
@@ -523,6 +555,8 @@ STAGES = {
     "stage: resume": resumes,
     "stage: what a server serves": what_is_served,
     "stage: an older server": older_server,
+    "stage: a server that doesn't end a halt": halts_left,
+    "stage: files that aren't read": unread_files,
     "stage: a server of another manifest": other_manifest,
     "stage: a quota that is used up": used_quota,
     "stage: a halt isn't lifted": lifted,
