@@ -6,11 +6,22 @@ ghost use Rattle.timeline.specs.Bins.{AreBins};
 use crate::app_panel::PictureSource;
 use crate::counts::{counts_by_bin, no_counts, raise_by_version};
 use crate::course_marks::CourseLines;
+use crate::layers::number_at;
 use crate::marks::Series;
-use crate::page_strip::{caption, class_of, close_strip, open_strip};
-use markup::{Attribute, Class, Document, Tag};
+use crate::page_strip::{caption, class_of, close_strip, draw_path, open_strip};
+use markup::{Class, Document};
 use std::alloc::{AllocError, Global};
 use std::fmt::Write;
+
+/// A strip with a layer for each version: the last one is lowest. The height is `most`, or in each
+/// bin its total.
+#[derive(Clone, Copy)]
+struct LayeredStrip<'a> {
+    drawn: Series<'a>,
+    versions: &'a [String],
+    totals: &'a [u64],
+    most: Option<u64>,
+}
 
 /// Draws the offers of each version, as numbers; a sentence if there is none.
 pub(crate) fn draw_offers<'a>(
@@ -25,8 +36,7 @@ pub(crate) fn draw_offers<'a>(
 {
     let drawn = Series::of_all("offers", app);
     let totals = counts_by_bin(alloc, source.rows, drawn, &source.bins)?;
-    let totals = totals.as_slice();
-    let most = most_of(totals);
+    let most = most_of(totals.as_slice());
     if most == 0 {
         caption(page, "No version was offered.");
         return Ok(());
@@ -35,16 +45,13 @@ pub(crate) fn draw_offers<'a>(
         page,
         format_args!("Offers of each version, at most {most} in a bin"),
     );
-    draw_strip(
-        alloc,
-        page,
-        source,
-        lines,
+    let strip = LayeredStrip {
         drawn,
         versions,
-        totals,
-        Some(most),
-    )
+        totals: totals.as_slice(),
+        most: Some(most),
+    };
+    draw_strip(alloc, page, source, lines, strip)
 }
 
 /// Draws each version's part of the update checks in each bin; a sentence if there is none.
@@ -60,13 +67,18 @@ pub(crate) fn draw_shares<'a>(
 {
     let drawn = Series::of_all("asks", app);
     let totals = counts_by_bin(alloc, source.rows, drawn, &source.bins)?;
-    let totals = totals.as_slice();
-    if most_of(totals) == 0 {
+    if most_of(totals.as_slice()) == 0 {
         caption(page, "No client made an update check.");
         return Ok(());
     }
     caption(page, "Update checks, the share of each version");
-    draw_strip(alloc, page, source, lines, drawn, versions, totals, None)
+    let strip = LayeredStrip {
+        drawn,
+        versions,
+        totals: totals.as_slice(),
+        most: None,
+    };
+    draw_strip(alloc, page, source, lines, strip)
 }
 
 fn most_of(numbers: &[u64]) -> u64 {
@@ -79,97 +91,96 @@ fn most_of(numbers: &[u64]) -> u64 {
     most
 }
 
-// A layer for each version, the last one lowest, and one for the others. The height of the strip is
-// `most`, or in each bin its total.
-fn draw_strip<'a>(
+// A layer for each version, and one for the others.
+fn draw_strip(
     alloc: Global,
     page: &mut Document,
     source: &PictureSource<'_>,
     lines: &CourseLines,
-    drawn: Series<'a>,
-    versions: &'a [String],
-    totals: &[u64],
-    most: Option<u64>,
+    strip: LayeredStrip<'_>,
 ) -> Result<(), AllocError>
     requires { AreBins source.now.bins }
 {
     let mut below = no_counts(alloc, &source.bins)?;
+    let mut above = no_counts(alloc, &source.bins)?;
     open_strip(page, &source.bins);
     draw_layers(
         alloc,
         page,
         source,
-        drawn,
-        versions,
-        totals,
-        most,
+        strip,
         below.as_mut_slice(),
+        above.as_mut_slice(),
     )?;
     close_strip(page, lines);
     Ok(())
 }
 
-fn draw_layers<'a>(
+// The layers, the lowest one first: from `below`, the counts under a layer, to `above`, the same
+// with its own.
+fn draw_layers(
     alloc: Global,
     page: &mut Document,
     source: &PictureSource<'_>,
-    drawn: Series<'a>,
-    versions: &'a [String],
-    totals: &[u64],
-    most: Option<u64>,
+    strip: LayeredStrip<'_>,
     below: &mut [u64],
+    above: &mut [u64],
 ) -> Result<(), AllocError>
     requires wide { 0 < source.now.bins.width }
-    requires all { length below.old ≡ source.now.bins.count }
+    requires below { length below.old ≡ source.now.bins.count }
+    requires above { length above.old ≡ source.now.bins.count }
 {
     let mut is_faint = false;
-    let mut place = versions.len();
-    for version in versions.iter().rev() {
+    let mut place = strip.versions.len();
+    for version in strip.versions.iter().rev() {
         place = place.saturating_sub(1);
-        let before = Vec::from_slice(alloc, below)?;
         raise_by_version(
             alloc,
-            below,
+            above,
             source.rows,
-            drawn,
+            strip.drawn,
             version.as_str(),
             &source.bins,
         )?;
-        let bars = bars_of(alloc, before.as_slice(), below, totals, most)?;
-        draw_layer(page, class_of(place), is_faint, bars.as_str());
-        is_faint = most.is_none();
+        draw_layer(alloc, page, strip, class_of(place), is_faint, below, above)?;
+        below.copy_from_slice(above);
+        is_faint = strip.most.is_none();
     }
-    let bars = bars_of(alloc, below, totals, totals, most)?;
-    draw_layer(page, Class::Others, false, bars.as_str());
-    Ok(())
-}
-
-// A layer, unless it is empty.
-fn draw_layer(page: &mut Document, class: Class, is_faint: bool, bars: &str) {
-    if bars.is_empty() {
-        return;
-    }
-    page.open_as(Tag::Path, class);
-    if is_faint {
-        page.attribute(Attribute::FillOpacity, "0.3");
-    }
-    page.attribute(Attribute::D, bars);
-    page.close();
+    draw_layer(
+        alloc,
+        page,
+        strip,
+        Class::Others,
+        false,
+        below,
+        strip.totals,
+    )
 }
 
 // A bar in each bin, from one count to another.
-fn bars_of(
+fn draw_layer(
     alloc: Global,
+    page: &mut Document,
+    strip: LayeredStrip<'_>,
+    class: Class,
+    is_faint: bool,
     from: &[u64],
     to: &[u64],
-    totals: &[u64],
-    most: Option<u64>,
-) -> Result<String, AllocError> {
+) -> Result<(), AllocError> {
     let mut path = String::new(alloc);
-    for (place, ((from, to), total)) in from.iter().zip(to.iter()).zip(totals.iter()).enumerate() {
-        push_bar(&mut path, place, *from, *to, most.unwrap_or(*total))?;
+    for place in 0..to.len() {
+        let whole = strip.most.unwrap_or(number_at(strip.totals, place));
+        push_bar(
+            &mut path,
+            place,
+            number_at(from, place),
+            number_at(to, place),
+            whole,
+        )?;
     }
-    Ok(path)
+    let opacity = if is_faint { "0.3" } else { "" };
+    draw_path(page, class, opacity, path.as_str());
+    Ok(())
 }
 
 // A bar from one count to another, of `whole`; none if they are the same.

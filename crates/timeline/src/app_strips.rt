@@ -8,9 +8,9 @@ use crate::app_layers::{draw_offers, draw_shares};
 use crate::app_panel::PictureSource;
 use crate::bins::Bins;
 use crate::course::{course_of, newest_course_of, source_of};
-use crate::course_marks::{CourseLines, StepMark, draw_marks};
-use crate::page_strip::{caption, class_of, close_strip, open_strip};
-use crate::steps::{Step, areas, edges, share_of, steps_if};
+use crate::course_marks::{CourseLines, CourseNotes, draw_marks};
+use crate::page_strip::{caption, class_of, close_strip, draw_path, open_strip};
+use crate::steps::{CourseStep, DrawnSteps, StepShape, path_of_steps, share_of};
 use crate::strips::steps_of_version;
 use crate::times::Times;
 use crate::versions::versions_in_rows;
@@ -19,7 +19,7 @@ use report::Report;
 use std::alloc::{AllocError, Global};
 
 /// Draws the course of an app: for each version the share of its own installs that failed, its
-/// offers, and its share of the update checks. Lines mark loads, and these steps, the oldest first.
+/// offers, and its share of the update checks. Lines mark loads, and the steps of these notes.
 /// Below is that of the newest minutes, if the first is by the hour for want of earlier ones.
 /// Nothing if no update check has a readable time. Also returns `AllocError` if a number overflows
 /// 64 bits.
@@ -30,13 +30,13 @@ pub fn draw_app(
     report: &Report,
     times: Times,
     app: &str,
-    steps: &[StepMark<'_>],
+    notes: CourseNotes<'_>,
 ) -> Result<(), AllocError> {
     if let Some(course) = course_of(report, times) {
-        draw_strips(alloc, page, &source_of(course), app, steps)?;
+        draw_strips(alloc, page, &source_of(course), app, notes)?;
     }
     match newest_course_of(report, times) {
-        Some(course) => draw_strips(alloc, page, &source_of(course), app, steps),
+        Some(course) => draw_strips(alloc, page, &source_of(course), app, notes),
         None => Ok(()),
     }
 }
@@ -46,7 +46,7 @@ fn draw_strips(
     page: &mut Document,
     source: &PictureSource<'_>,
     app: &str,
-    steps: &[StepMark<'_>],
+    notes: CourseNotes<'_>,
 ) -> Result<(), AllocError>
     requires { AreBins source.now.bins }
 {
@@ -54,7 +54,7 @@ fn draw_strips(
     let versions = versions.as_slice();
     draw_heading(page, &source.bins);
     page.open_as(Tag::Division, Class::Course);
-    let lines = draw_marks(alloc, page, source, steps)?;
+    let lines = draw_marks(alloc, page, source, notes)?;
     draw_failures(alloc, page, source, &lines, app, versions)?;
     draw_offers(alloc, page, source, &lines, app, versions)?;
     draw_shares(alloc, page, source, &lines, app, versions)?;
@@ -120,7 +120,7 @@ fn scale_of(
     })
 }
 
-fn highest(steps: &[Step], least: u128) -> u128 {
+fn highest(steps: &[CourseStep], least: u128) -> u128 {
     let mut most = least;
     for step in steps {
         most = most.max(share_of(*step));
@@ -142,33 +142,38 @@ fn draw_steps(
     alloc: Global,
     page: &mut Document,
     class: Class,
-    steps: &[Step],
+    steps: &[CourseStep],
     top: u128,
 ) -> Result<(), AllocError> {
-    let low = steps_if(alloc, steps, false)?;
-    let high = steps_if(alloc, steps, true)?;
-    draw_areas(alloc, page, class, low.as_slice(), top)?;
-    draw_areas(alloc, page, Class::Bad, high.as_slice(), top)
+    let high = Some(false);
+    draw_both(alloc, page, class, DrawnSteps { steps, high, top })?;
+    let high = Some(true);
+    draw_both(alloc, page, Class::Bad, DrawnSteps { steps, high, top })
 }
 
-fn draw_areas(
+// The areas of steps, and then their edges.
+fn draw_both(
     alloc: Global,
     page: &mut Document,
     class: Class,
-    steps: &[Step],
-    top: u128,
+    drawn: DrawnSteps<'_>,
 ) -> Result<(), AllocError> {
-    if steps.is_empty() {
-        return Ok(());
-    }
-    let areas = areas(alloc, steps, top)?;
-    let edges = edges(alloc, steps, top)?;
-    page.open_as(Tag::Path, class);
-    page.attribute(Attribute::FillOpacity, "0.4");
-    page.attribute(Attribute::D, areas.as_str());
-    page.close();
-    page.open_as(Tag::Path, class);
-    page.attribute(Attribute::D, edges.as_str());
-    page.close();
+    draw_shape(alloc, page, class, drawn, StepShape::Area)?;
+    draw_shape(alloc, page, class, drawn, StepShape::Edge)
+}
+
+fn draw_shape(
+    alloc: Global,
+    page: &mut Document,
+    class: Class,
+    drawn: DrawnSteps<'_>,
+    shape: StepShape,
+) -> Result<(), AllocError> {
+    let path = path_of_steps(alloc, drawn, shape)?;
+    let opacity = match shape {
+        StepShape::Area => "0.4",
+        StepShape::Edge => "",
+    };
+    draw_path(page, class, opacity, path.as_str());
     Ok(())
 }

@@ -1,12 +1,12 @@
 //! The axis of time below an app's strips, with ticks at round times.
 
-ghost use Rattle.std.specs.Prelude.{◌<◌, ◌≤◌};
+ghost use Rattle.std.specs.Prelude.{◌<◌};
 ghost use Rattle.timeline.specs.Bins.{AreBins};
 
 use crate::bins::Bins;
 use crate::marks::LAST_MINUTE;
+use crate::minute_text::{clock_in, date_in, text_of_minute};
 use markup::{Attribute, Document, Tag};
-use moments::CivilDate;
 
 /// The steps between ticks, in minutes.
 const STEPS: [u64; 18] = [
@@ -49,8 +49,7 @@ pub(crate) fn step_for(span: u64) -> u64
 }
 
 fn draw_tick(picture: &mut Document, bins: &Bins, minute: u64)
-    requires some { 0 < bins.now.span }
-    requires early { minute ≤ 4223371679 }
+    requires { 0 < bins.now.span }
 {
     let x = across(bins, minute);
     picture.open(Tag::Path);
@@ -62,12 +61,9 @@ fn draw_tick(picture: &mut Document, bins: &Bins, minute: u64)
 }
 
 // The time of day, such as `08:00`, and below it the date, such as `2026-11-25`.
-fn draw_time(picture: &mut Document, x: u128, minute: u64)
-    requires { minute ≤ 4223371679 }
-{
-    let hour = minute / 60 % 24;
-    let past = minute % 60;
-    picture.small_label("middle", x, 410, format_args!("{hour:02}:{past:02}"));
-    let CivilDate { year, month, day } = CivilDate::of_day(minute / 1440);
-    picture.small_label("middle", x, 425, format_args!("{year}-{month:02}-{day:02}"));
+fn draw_time(picture: &mut Document, x: u128, minute: u64) {
+    let text = text_of_minute(minute);
+    let text = text.as_str();
+    picture.small_label("middle", x, 410, clock_in(text));
+    picture.small_label("middle", x, 425, date_in(text));
 }

@@ -10,7 +10,7 @@ use report::{AppQuestion, ChartQuestion, LineQuestion, Question, Report, Tally};
 
 /// The tables for a chart; `counts` has the rows by minute or by hour, which the bins divide.
 #[derive(Clone, Copy)]
-pub(crate) struct Course<'a> {
+pub(crate) struct DrawnCourse<'a> {
     pub update_checks: &'a Tally,
     pub loads: &'a Tally,
     pub versions: &'a Tally,
@@ -19,7 +19,7 @@ pub(crate) struct Course<'a> {
 }
 
 /// The course of a report; `None` if no update check has a readable time.
-pub(crate) fn course_of<'a>(report: &'a Report, times: Times) -> Option<Course<'a>>
+pub(crate) fn course_of<'a>(report: &'a Report, times: Times) -> Option<DrawnCourse<'a>>
     ensures { IfSome result (λ course. AreBins course.bins) }
 {
     let by_minute = report.tally(Question::Chart(ChartQuestion::ByMinute))?;
@@ -32,7 +32,7 @@ pub(crate) fn course_of<'a>(report: &'a Report, times: Times) -> Option<Course<'
 }
 
 /// The course of the newest minutes, if the report has left out earlier ones.
-pub(crate) fn newest_course_of<'a>(report: &'a Report, times: Times) -> Option<Course<'a>>
+pub(crate) fn newest_course_of<'a>(report: &'a Report, times: Times) -> Option<DrawnCourse<'a>>
     ensures { IfSome result (λ course. AreBins course.bins) }
 {
     let by_minute = report.tally(Question::Chart(ChartQuestion::ByMinute))?;
@@ -49,7 +49,7 @@ fn course_by<'a>(
     counts: &'a Tally,
     reach: Option<Reach>,
     by_hour: bool,
-) -> Option<Course<'a>>
+) -> Option<DrawnCourse<'a>>
     ensures { IfSome result (λ course. AreBins course.bins) }
 {
     let update_checks = report.tally(Question::App(AppQuestion::UpdateCheck))?;
@@ -59,7 +59,7 @@ fn course_by<'a>(
         return None;
     }
     match bins_over(reach?, by_hour) {
-        Some(bins) => Some(Course {
+        Some(bins) => Some(DrawnCourse {
             update_checks,
             loads,
             versions,
@@ -76,7 +76,7 @@ fn is_fine(by_minute: &Tally, times: Times) -> bool {
 }
 
 /// The data that is drawn.
-pub(crate) fn source_of<'a>(course: Course<'a>) -> PictureSource<'a>
+pub(crate) fn source_of<'a>(course: DrawnCourse<'a>) -> PictureSource<'a>
     ensures { result.bins ≡ course.entry.bins }
 {
     PictureSource {

@@ -4,9 +4,9 @@ ghost use Rattle.std.specs.Prelude.{◌<◌};
 
 use crate::app_panel::PictureSource;
 use crate::bins::Bins;
-use crate::load_marks::{load_minute, minute_within};
+use crate::load_marks::{is_load_among, load_minute, minute_within};
 use crate::marks::{first, rest};
-use crate::page_strip::{caption, part_of};
+use crate::page_strip::{caption, open_label, part_of};
 use markup::{Attribute, Class, Document, Tag};
 use moments::minute_in;
 use std::alloc::{AllocError, Global};
@@ -21,6 +21,15 @@ const LONGEST: usize = 24;
 /// The width that a byte of a label takes, in tenths of a percent: 7 pixels of 350.
 const LETTER: u128 = 20;
 
+/// What a folder says of the times in a course.
+#[derive(Clone, Copy)]
+pub struct CourseNotes<'a> {
+    /// Its steps, the oldest first.
+    pub steps: &'a [StepMark<'a>],
+    /// The loads that no step explains: of each a report's row with its digest.
+    pub unexplained: &'a [&'a str],
+}
+
 /// A step that was taken, as a course shows it.
 #[derive(Clone, Copy)]
 pub struct StepMark<'a> {
@@ -30,12 +39,14 @@ pub struct StepMark<'a> {
     pub label: &'a str,
 }
 
-// A line at the left edge of a bin. Its label is the last load's or step's in the bin.
+// A line at the left edge of a bin. Its label is the last load's or step's in the bin, between two
+// words of ours.
 #[derive(Clone, Copy)]
 struct Mark<'a> {
     place: u128,
     word: &'static str,
     label: &'a str,
+    end: &'static str,
 }
 
 /// The lines of a course, as paths.
@@ -45,19 +56,21 @@ pub(crate) struct CourseLines {
     pub loads: String,
 }
 
-/// Draws the labels of steps and of loads, and returns their lines. A bin has one line of each.
-/// Only the newest 20 are drawn, and how many others there are is said.
+/// Draws the labels of steps and of loads, and returns their lines. A bin has one line of each, if
+/// they come in the order of their times: a clock that was set back may give it two. A label of
+/// over 24 bytes isn't drawn. Only the newest 20 lines of each are drawn, and how many others there
+/// are is said.
 pub(crate) fn draw_marks(
     alloc: Global,
     page: &mut Document,
     source: &PictureSource<'_>,
-    steps: &[StepMark<'_>],
+    notes: CourseNotes<'_>,
 ) -> Result<CourseLines, AllocError>
     requires { 0 < source.now.bins.span }
 {
-    let taken = step_marks(alloc, &source.bins, steps)?;
+    let taken = step_marks(alloc, &source.bins, notes.steps)?;
     let taken = taken.as_slice();
-    let loads = load_marks(alloc, source)?;
+    let loads = load_marks(alloc, source, notes.unexplained)?;
     let loads = loads.as_slice();
     draw_left_out(page, taken.len().saturating_sub(MOST_LINES), "steps");
     draw_left_out(page, loads.len().saturating_sub(MOST_LINES), "loads");
@@ -69,17 +82,25 @@ pub(crate) fn draw_marks(
     })
 }
 
-fn load_marks<'a>(alloc: Global, source: &PictureSource<'a>) -> Result<Vec<Mark<'a>>, AllocError>
+fn load_marks<'a>(
+    alloc: Global,
+    source: &PictureSource<'a>,
+    unexplained: &[&str],
+) -> Result<Vec<Mark<'a>>, AllocError>
     requires { 0 < source.now.bins.span }
 {
     let mut marks = Vec::new(alloc);
     for (name, _count) in source.loads.iter() {
         let name = name.as_str();
         if let Some(minute) = load_minute(&source.bins, name) {
-            let place = part_of(&source.bins, minute, source.bins.count);
-            let label = first(rest(name));
-            let word = "load ";
-            push_mark(&mut marks, Mark { place, word, label })?;
+            let is_marked = is_load_among(unexplained, name);
+            let mark = Mark {
+                place: part_of(&source.bins, minute, source.bins.count),
+                word: "load ",
+                label: first(rest(name)),
+                end: if is_marked { ", no step" } else { "" },
+            };
+            push_mark(&mut marks, mark)?;
         }
     }
     Ok(marks)
@@ -95,10 +116,13 @@ fn step_marks<'a>(
     let mut marks = Vec::new(alloc);
     for step in steps {
         if let Some(minute) = minute_of(bins, step.time) {
-            let place = part_of(bins, minute, bins.count);
-            let label = step.label;
-            let word = "";
-            push_mark(&mut marks, Mark { place, word, label })?;
+            let mark = Mark {
+                place: part_of(bins, minute, bins.count),
+                word: "",
+                label: step.label,
+                end: "",
+            };
+            push_mark(&mut marks, mark)?;
         }
     }
     Ok(marks)
@@ -164,6 +188,7 @@ fn draw_labels(page: &mut Document, bins: &Bins, marks: &[Mark<'_>]) {
 // `free` at most. Returns its left edge, or else `free`.
 fn draw_label(page: &mut Document, bins: &Bins, mark: Mark<'_>, free: u128) -> u128 {
     let letters = mark.word.len().saturating_add(mark.label.len());
+    let letters = letters.saturating_add(mark.end.len());
     let x = mark.place.saturating_mul(1000) / bins.count.max(1) as u128;
     let width = LETTER.saturating_mul(letters as u128);
     let is_last = x.saturating_add(width) > 1000;
@@ -176,13 +201,10 @@ fn draw_label(page: &mut Document, bins: &Bins, mark: Mark<'_>, free: u128) -> u
 }
 
 fn put_label(page: &mut Document, tenths: u128, anchor: &str, mark: Mark<'_>) {
-    let whole = tenths / 10;
-    let tenth = tenths % 10;
-    page.open(Tag::Text);
-    page.attribute(Attribute::X, format_args!("{whole}.{tenth}%"));
-    page.attribute(Attribute::Y, "14");
+    open_label(page, tenths);
     page.attribute(Attribute::TextAnchor, anchor);
     page.text(mark.word);
     page.text(mark.label);
+    page.text(mark.end);
     page.close();
 }

@@ -65,10 +65,23 @@ fn draw_layer(
 
 fn bars(alloc: Global, totals: &[u64], below: &[u64]) -> Result<String, AllocError> {
     let mut bars = String::new(alloc);
-    for (place, (total, below)) in totals.iter().zip(below.iter()).enumerate() {
-        push_bar(&mut bars, place, *total, *below)?;
+    for place in 0..totals.len() {
+        push_bar(
+            &mut bars,
+            place,
+            number_at(totals, place),
+            number_at(below, place),
+        )?;
     }
     Ok(bars)
+}
+
+/// The number at this place; 0 if there is none.
+pub(crate) fn number_at(numbers: &[u64], place: usize) -> u64 {
+    match numbers.get(place) {
+        Some(n) => *n,
+        None => 0,
+    }
 }
 
 // The bar of a bin, from the share of the layers below up to the top. No bar if they have all

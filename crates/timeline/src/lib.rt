@@ -23,6 +23,7 @@ mod layers;
 mod legend;
 mod load_marks;
 mod marks;
+mod minute_text;
 mod newest;
 mod page_strip;
 mod picture;
@@ -34,8 +35,9 @@ mod version_course;
 mod versions;
 
 pub use app_strips::draw_app;
-pub use course_marks::StepMark;
+pub use course_marks::{CourseNotes, StepMark};
 pub use legend::VersionCounts;
+pub use load_marks::is_load_among;
 pub use newest::Outcomes;
 pub use page_strip::class_of;
 pub use picture::draw_course;

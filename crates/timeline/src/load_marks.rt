@@ -70,6 +70,17 @@ pub(crate) fn minute_within(bins: &Bins, minute: u64) -> Option<u64>
     Some(minute)
 }
 
+/// Whether one of these rows has the time and the generation of this one.
+// open: when it has: rows.
+pub fn is_load_among(loads: &[&str], name: &str) -> bool {
+    for load in loads {
+        if first(load) == first(name) && first(rest(load)) == first(rest(name)) {
+            return true;
+        }
+    }
+    false
+}
+
 // A dashed line across the three strips, over a white line.
 fn draw_line(picture: &mut Document, x: u128) {
     picture.open(Tag::Path);

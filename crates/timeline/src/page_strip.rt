@@ -42,18 +42,32 @@ pub(crate) fn open_strip(page: &mut Document, bins: &Bins) {
 
 /// Closes a strip after the lines of steps and of loads.
 pub(crate) fn close_strip(page: &mut Document, lines: &CourseLines) {
-    draw_lines(page, Class::Axis, lines.steps.as_str());
-    draw_lines(page, Class::Load, lines.loads.as_str());
+    draw_path(page, Class::Axis, "", lines.steps.as_str());
+    draw_path(page, Class::Load, "", lines.loads.as_str());
     page.close();
     page.line();
 }
 
-fn draw_lines(page: &mut Document, class: Class, path: &str) {
-    if !path.is_empty() {
-        page.open_as(Tag::Path, class);
-        page.attribute(Attribute::D, path);
-        page.close();
+/// Draws a path, unless it is empty. An empty opacity is that of the class.
+pub(crate) fn draw_path(page: &mut Document, class: Class, opacity: &str, path: &str) {
+    if path.is_empty() {
+        return;
     }
+    page.open_as(Tag::Path, class);
+    if !opacity.is_empty() {
+        page.attribute(Attribute::FillOpacity, opacity);
+    }
+    page.attribute(Attribute::D, path);
+    page.close();
+}
+
+/// Opens a label at this part of the width, in tenths of a percent.
+pub(crate) fn open_label(page: &mut Document, tenths: u128) {
+    let whole = tenths / 10;
+    let tenth = tenths % 10;
+    page.open(Tag::Text);
+    page.attribute(Attribute::X, format_args!("{whole}.{tenth}%"));
+    page.attribute(Attribute::Y, "14");
 }
 
 /// How far a minute is from the first, if all bins together take `whole`.

@@ -7,7 +7,7 @@ ghost use Rattle.timeline.specs.Loads as specs;
 
 use crate::app_panel::{PictureSource, draw_panel, panels_height};
 use crate::bins::Bins;
-use crate::course::{Course, course_of, source_of};
+use crate::course::{DrawnCourse, course_of, source_of};
 use crate::load_marks::loads_outside;
 use crate::marks::{added, first};
 use crate::times::Times;
@@ -56,7 +56,7 @@ fn draw_none(alloc: Global) -> Result<String, AllocError>
     picture.finish()
 }
 
-fn draw_over<'a>(alloc: Global, course: Course<'a>) -> Result<String, AllocError>
+fn draw_over<'a>(alloc: Global, course: DrawnCourse<'a>) -> Result<String, AllocError>
     requires { AreBins course.bins }
     ensures { IfOk result (λ text. IsDocument (string_bytes text)) }
 {

@@ -14,7 +14,7 @@ const WHOLE: u128 = 10000;
 
 /// Installs of a version in the bins from `start` on and before `end`, and how many of them failed.
 #[derive(Clone, Copy)]
-pub(crate) struct Step {
+pub(crate) struct CourseStep {
     pub start: usize,
     pub end: usize,
     pub installs: u64,
@@ -29,7 +29,7 @@ pub(crate) fn steps_of(
     alloc: Global,
     installs: &[u64],
     failures: &[u64],
-) -> Result<Vec<Step>, AllocError> {
+) -> Result<Vec<CourseStep>, AllocError> {
     let mut steps = Vec::new(alloc);
     let mut step = begun_at(0);
     for (place, (ended, failed)) in installs.iter().zip(failures.iter()).enumerate() {
@@ -45,8 +45,8 @@ pub(crate) fn steps_of(
     Ok(steps)
 }
 
-fn begun_at(place: usize) -> Step {
-    Step {
+fn begun_at(place: usize) -> CourseStep {
+    CourseStep {
         start: place,
         end: place,
         installs: 0,
@@ -55,13 +55,18 @@ fn begun_at(place: usize) -> Step {
 }
 
 // A step with the counts of one more bin; it begins there if it has no install so far.
-fn step_with(step: Step, place: usize, ended: u64, failed: u64) -> Result<Step, AllocError> {
+fn step_with(
+    step: CourseStep,
+    place: usize,
+    ended: u64,
+    failed: u64,
+) -> Result<CourseStep, AllocError> {
     let start = if step.installs == 0 {
         place
     } else {
         step.start
     };
-    Ok(Step {
+    Ok(CourseStep {
         start,
         end: place.saturating_add(1),
         installs: added(step.installs, ended)?,
@@ -70,9 +75,9 @@ fn step_with(step: Step, place: usize, ended: u64, failed: u64) -> Result<Step, 
 }
 
 // Adds what is left to the last step; without one it is a step.
-fn join_last(steps: &mut Vec<Step>, rest: Step) -> Result<(), AllocError> {
+fn join_last(steps: &mut Vec<CourseStep>, rest: CourseStep) -> Result<(), AllocError> {
     let joined = match steps.pop() {
-        Some(last) => Step {
+        Some(last) => CourseStep {
             start: last.start,
             end: rest.end,
             installs: added(last.installs, rest.installs)?,
@@ -85,7 +90,7 @@ fn join_last(steps: &mut Vec<Step>, rest: Step) -> Result<(), AllocError> {
 }
 
 /// The share of failures of a step, in hundredths of a percent.
-pub(crate) fn share_of(step: Step) -> u128 {
+pub(crate) fn share_of(step: CourseStep) -> u128 {
     if step.installs == 0 {
         return 0;
     }
@@ -93,45 +98,65 @@ pub(crate) fn share_of(step: Step) -> u128 {
 }
 
 /// Whether a step is above 5 percent, and at least three failed.
-pub(crate) fn is_high(step: Step) -> bool {
+fn is_high(step: CourseStep) -> bool {
     step.failures >= 3 && share_of(step) > 500
 }
 
-/// The steps that are high, or those that aren't.
-pub(crate) fn steps_if(alloc: Global, steps: &[Step], high: bool) -> Result<Vec<Step>, AllocError> {
-    let mut chosen = Vec::new(alloc);
-    for step in steps {
-        if is_high(*step) == high {
-            chosen.push(*step)?;
+/// The steps of a version that are drawn: those that are high, those that aren't, or all for
+/// `None`. The height of their strip is `top` hundredths of a percent, divided into 10000.
+#[derive(Clone, Copy)]
+pub(crate) struct DrawnSteps<'a> {
+    pub steps: &'a [CourseStep],
+    pub high: Option<bool>,
+    pub top: u128,
+}
+
+/// What is drawn of a step: the area below its share, or only the upper edge of that area, a bar of
+/// 2.5 percent of the strip's height.
+#[derive(Clone, Copy)]
+pub(crate) enum StepShape {
+    Area,
+    Edge,
+}
+
+/// The path of these steps; empty if there is none.
+pub(crate) fn path_of_steps(
+    alloc: Global,
+    drawn: DrawnSteps<'_>,
+    shape: StepShape,
+) -> Result<String, AllocError> {
+    let mut path = String::new(alloc);
+    for step in drawn.steps {
+        if is_drawn(*step, drawn.high) {
+            push_step(&mut path, *step, drawn.top, shape)?;
         }
     }
-    Ok(chosen)
-}
-
-/// The areas below the shares of the steps, in a strip whose height is `top` hundredths of a
-/// percent, divided into 10000.
-pub(crate) fn areas(alloc: Global, steps: &[Step], top: u128) -> Result<String, AllocError> {
-    let mut path = String::new(alloc);
-    for step in steps {
-        let y = WHOLE.saturating_sub(height_of(*step, top));
-        let Step { start, end, .. } = *step;
-        write!(path, "M{start} {y}H{end}V10000H{start}z")?;
-    }
     Ok(path)
 }
 
-/// The upper edges of the same areas, each a bar of 2.5 percent of the strip's height.
-pub(crate) fn edges(alloc: Global, steps: &[Step], top: u128) -> Result<String, AllocError> {
-    let mut path = String::new(alloc);
-    for step in steps {
-        let y = WHOLE.saturating_sub(height_of(*step, top)).min(9750);
-        let Step { start, end, .. } = *step;
-        write!(path, "M{start} {y}H{end}v250H{start}z")?;
+fn is_drawn(step: CourseStep, high: Option<bool>) -> bool {
+    match high {
+        Some(high) => is_high(step) == high,
+        None => true,
     }
-    Ok(path)
 }
 
-fn height_of(step: Step, top: u128) -> u128 {
+fn push_step(
+    path: &mut String,
+    step: CourseStep,
+    top: u128,
+    shape: StepShape,
+) -> Result<(), AllocError> {
+    let y = WHOLE.saturating_sub(height_of(step, top));
+    let (y, down) = match shape {
+        StepShape::Area => (y, "V10000"),
+        StepShape::Edge => (y.min(9750), "v250"),
+    };
+    let CourseStep { start, end, .. } = step;
+    write!(path, "M{start} {y}H{end}{down}H{start}z")
+}
+
+fn height_of(step: CourseStep, top: u128) -> u128 {
     if top == 0 {
         return 0;
     }

@@ -8,7 +8,7 @@ use crate::bins::Bins;
 use crate::counts::{counts_by_bin, no_counts};
 use crate::layers::{draw_layers, next_colour};
 use crate::marks::{Series, drawn_count};
-use crate::steps::{Step, areas, edges, steps_of};
+use crate::steps::{CourseStep, DrawnSteps, StepShape, path_of_steps, steps_of};
 use markup::{Attribute, Document, Tag};
 use std::alloc::{AllocError, Global};
 
@@ -103,23 +103,35 @@ fn draw_steps(
     alloc: Global,
     picture: &mut Document,
     colour: usize,
-    steps: &[Step],
+    steps: &[CourseStep],
 ) -> Result<(), AllocError> {
     if steps.is_empty() {
         return Ok(());
     }
-    let areas = areas(alloc, steps, 10000)?;
-    let edges = edges(alloc, steps, 10000)?;
-    picture.open(Tag::Path);
-    picture.colour(Attribute::Fill, colour);
-    picture.attribute(Attribute::FillOpacity, "0.3");
-    picture.attribute(Attribute::D, areas.as_str());
-    picture.close();
-    picture.open(Tag::Path);
-    picture.colour(Attribute::Fill, colour);
-    picture.attribute(Attribute::D, edges.as_str());
-    picture.close();
+    let (high, top) = (None, 10000);
+    let drawn = DrawnSteps { steps, high, top };
+    draw_shape(alloc, picture, colour, drawn, StepShape::Area)?;
+    draw_shape(alloc, picture, colour, drawn, StepShape::Edge)?;
     picture.line();
+    Ok(())
+}
+
+fn draw_shape(
+    alloc: Global,
+    picture: &mut Document,
+    colour: usize,
+    drawn: DrawnSteps<'_>,
+    shape: StepShape,
+) -> Result<(), AllocError> {
+    let path = path_of_steps(alloc, drawn, shape)?;
+    picture.open(Tag::Path);
+    picture.colour(Attribute::Fill, colour);
+    match shape {
+        StepShape::Area => picture.attribute(Attribute::FillOpacity, "0.3"),
+        StepShape::Edge => (),
+    }
+    picture.attribute(Attribute::D, path.as_str());
+    picture.close();
     Ok(())
 }
 
@@ -129,7 +141,7 @@ pub(crate) fn steps_of_version<'a>(
     source: &PictureSource<'_>,
     app: &'a str,
     version: &'a str,
-) -> Result<Vec<Step>, AllocError>
+) -> Result<Vec<CourseStep>, AllocError>
     requires { AreBins source.now.bins }
 {
     let installs = Series::of_all("installs", app).of_version(version);
