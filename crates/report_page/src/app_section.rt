@@ -9,7 +9,7 @@ use crate::offer_section::{draw_halt, draw_offer};
 use crate::source::PageSource;
 use markup::{Class, Document, Tag};
 use std::alloc::{AllocError, Global};
-use timeline::{StepMark, VersionCourse, class_of, draw_app};
+use timeline::{CourseNotes, StepMark, VersionCourse, class_of, draw_app};
 
 /// The heads of the columns of versions.
 const HEADS: [&str; 7] = [
@@ -60,14 +60,11 @@ fn draw_section(
     draw_halt(page, source, appid);
     draw_both(page, source, app);
     let steps = marks_of(alloc, source.facts.folder, appid)?;
-    draw_app(
-        alloc,
-        page,
-        source.report,
-        source.times,
-        appid,
-        steps.as_slice(),
-    )?;
+    let notes = CourseNotes {
+        steps: steps.as_slice(),
+        unexplained: source.unexplained,
+    };
+    draw_app(alloc, page, source.report, source.times, appid, notes)?;
     if !app.versions.is_empty() {
         remark(page, LINES);
     }
@@ -94,7 +91,8 @@ fn draw_both(page: &mut Document, source: &PageSource<'_>, app: &AppCourse) {
     page.line();
 }
 
-// The steps that changed an app or the manifest, the oldest first.
+// Those of the folder's last 20 steps that changed an app or the manifest, the oldest first. The
+// section of steps says how many earlier ones there are.
 fn marks_of<'a>(
     alloc: Global,
     folder: Option<&'a FolderFacts>,

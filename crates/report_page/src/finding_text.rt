@@ -2,7 +2,7 @@
 
 use crate::elements::{put, put_name, put_share, put_time, put_wait};
 use crate::findings::{Failing, Finding, UsedUp};
-use crate::log_age::LogEnd;
+use crate::log_age::NewestEnd;
 use crate::offer_section::{put_halt, put_quota};
 use crate::source::PageSource;
 use markup::{Document, Tag};
@@ -25,6 +25,11 @@ pub(crate) fn draw_title(page: &mut Document, finding: Finding<'_>) {
             put_name(page, appid);
             page.text(" is halted");
         }
+        Finding::Unexplained([_]) => page.text("A load that no step explains"),
+        Finding::Unexplained(loads) => {
+            let n = loads.len();
+            page.text(format_args!("Loads that no step explains: {n}"));
+        }
         Finding::UsedUp(used) => draw_used_up(page, used),
         Finding::Unread(_) => page.text("The folder isn't read whole"),
         Finding::Unknown(n) => {
@@ -46,7 +51,7 @@ fn draw_failing(page: &mut Document, failing: Failing<'_>) {
     put_share(page, failures, installs);
 }
 
-fn draw_end(page: &mut Document, end: LogEnd<'_>) {
+fn draw_end(page: &mut Document, end: NewestEnd<'_>) {
     let minutes = end.minutes;
     page.text("The log ends at ");
     put_time(page, end.time);
@@ -69,6 +74,7 @@ pub(crate) fn draw_advice(page: &mut Document, source: &PageSource<'_>, finding:
             "Up to {n} requests are in no number of this page."
         )),
         Finding::Halted(appid) => draw_resume(page, source, appid),
+        Finding::Unexplained(loads) => draw_newest(page, source, loads),
         Finding::Unread(sentence) => page.text(Printed(sentence)),
         _ => page.text(consequence(finding)),
     }
@@ -120,16 +126,37 @@ fn draw_resume(page: &mut Document, source: &PageSource<'_>, appid: &str) {
     page.text(" alone.");
 }
 
+// The newest of these loads, and the command that compares what is served.
+fn draw_newest(page: &mut Document, source: &PageSource<'_>, loads: &[&str]) {
+    if let [.., newest] = loads {
+        let mut texts = newest.split('\t');
+        page.text("The newest was at ");
+        put_time(page, texts.next().unwrap_or(""));
+        page.text(", generation ");
+        page.text(texts.next().unwrap_or(""));
+        page.text(". To compare: ");
+    }
+    page.open(Tag::Code);
+    page.text("rollout stage status");
+    put_port(page, source);
+    page.close();
+}
+
 // A command on an app, at the server's port if it is given.
 fn put_command(page: &mut Document, source: &PageSource<'_>, command: &str, appid: &str) {
     let name = if is_plain(appid) { appid } else { "APPID" };
     page.open(Tag::Code);
     page.text(format_args!("{command} {name}"));
+    put_port(page, source);
+    page.close();
+}
+
+// The option for a server's port, if that is given.
+fn put_port(page: &mut Document, source: &PageSource<'_>) {
     if let Some(server) = source.facts.server {
         let port = server.port;
         page.text(format_args!(" --operator {port}"));
     }
-    page.close();
 }
 
 // Whether a shell takes the text as one word: letters, digits, dots, hyphens and underscores, and

@@ -1,7 +1,7 @@
 //! What a report finds: what is wrong, the worst first.
 
 use crate::folder::{FolderFacts, OfferedQuota};
-use crate::log_age::{LogEnd, end_of, is_without_end};
+use crate::log_age::{NewestEnd, end_of, is_without_end};
 use crate::source::PageSource;
 use report::{AppQuestion, ChartQuestion, Question, Report};
 use server_replies::{ServerFacts, text_after};
@@ -40,7 +40,7 @@ pub(crate) enum Finding<'a> {
     /// The server at this port doesn't reply.
     Silent(u16),
     Fails(Failing<'a>),
-    Ended(LogEnd<'a>),
+    Ended(NewestEnd<'a>),
     /// Logs of which lines were counted have no line of a server near their end.
     NoLine,
     /// Requests that got a status from 500 on.
@@ -53,6 +53,8 @@ pub(crate) enum Finding<'a> {
     Waited(u64),
     /// An app that the server halts.
     Halted(&'a str),
+    /// The loads that no step explains: of each its row with the digest.
+    Unexplained(&'a [&'a str]),
     UsedUp(UsedUp<'a>),
     /// What of the folder couldn't be read.
     Unread(&'a str),
@@ -145,6 +147,9 @@ fn note_others<'a>(
         if let Some(appid) = text_after("halted", *line) {
             findings.push(Finding::Halted(appid))?;
         }
+    }
+    if !source.unexplained.is_empty() {
+        findings.push(Finding::Unexplained(source.unexplained))?;
     }
     if let Some(folder) = source.facts.folder {
         note_folder(findings, source, folder)?;

@@ -7,6 +7,7 @@ pub struct FolderFacts {
     pub steps: Vec<TakenStep>,
     /// How many steps were taken before these.
     pub earlier_steps: u64,
+    pub digests: FolderDigests,
     /// What of the folder couldn't be read: sentences without a full stop.
     pub unread: Vec<String>,
 }
@@ -17,7 +18,29 @@ impl Drop for FolderFacts {
             apps: _apps,
             steps: _steps,
             earlier_steps: _earlier_steps,
+            digests: _digests,
             unread: _unread,
+        } = self;
+    }
+}
+
+/// The digests of what a folder has and had, by which loads are explained, in hexadecimal digits.
+pub struct FolderDigests {
+    /// That of what is in place, if it can be read.
+    pub in_place: Option<String>,
+    /// Those of what the last steps found and left.
+    pub left: Vec<String>,
+    /// When the first of these steps was taken, in seconds since 1970. Only loads from then on are
+    /// judged; none, if it isn't known.
+    pub since: Option<u64>,
+}
+
+impl Drop for FolderDigests {
+    fn drop(self) {
+        let Self {
+            in_place: _in_place,
+            left: _left,
+            since: _since,
         } = self;
     }
 }

@@ -20,8 +20,9 @@ mod page;
 mod request_section;
 mod source;
 mod step_section;
+mod unexplained;
 
 pub use facts::{LogsEnd, PageFacts};
-pub use folder::{FolderFacts, OfferedApp, OfferedQuota, TakenStep};
+pub use folder::{FolderDigests, FolderFacts, OfferedApp, OfferedQuota, TakenStep};
 pub use head::PAGE_BEGINNING;
 pub use page::page_text;

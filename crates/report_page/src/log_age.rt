@@ -10,14 +10,14 @@ const MOST_SECONDS: u64 = 600;
 
 /// The end of a log that has ended.
 #[derive(Clone, Copy)]
-pub(crate) struct LogEnd<'a> {
+pub(crate) struct NewestEnd<'a> {
     pub time: &'a str,
     /// How long before the page: whole minutes.
     pub minutes: u64,
 }
 
 /// The end of logs whose last lines are all over ten minutes older than the page.
-pub(crate) fn end_of<'a>(facts: PageFacts<'a>) -> Option<LogEnd<'a>> {
+pub(crate) fn end_of<'a>(facts: PageFacts<'a>) -> Option<NewestEnd<'a>> {
     let LogsEnd::At(time) = facts.end else {
         return None;
     };
@@ -26,7 +26,7 @@ pub(crate) fn end_of<'a>(facts: PageFacts<'a>) -> Option<LogEnd<'a>> {
         return None;
     }
     let minutes = seconds / 60;
-    Some(LogEnd { time, minutes })
+    Some(NewestEnd { time, minutes })
 }
 
 /// Whether lines were counted, and the logs have no line of a server near their end.

@@ -13,6 +13,7 @@ use crate::head::{PAGE_END, PAGE_HEAD};
 use crate::request_section::{draw_loads, draw_requests, draw_whole};
 use crate::source::PageSource;
 use crate::step_section::draw_steps;
+use crate::unexplained::unexplained_loads;
 use cell_assignments::read_assignments;
 use markup::Document;
 use report::Report;
@@ -79,6 +80,7 @@ fn draw_from(
 ) -> Result<(), AllocError> {
     let state = lines_of(alloc, facts.state())?;
     let cells = read_assignments(alloc, facts.cells())?;
+    let unexplained = unexplained_loads(alloc, report, facts.folder)?;
     let source = PageSource {
         report,
         times,
@@ -87,6 +89,7 @@ fn draw_from(
         apps,
         state: state.as_slice(),
         cells: cells.as_slice(),
+        unexplained: unexplained.as_slice(),
     };
     draw_parts(alloc, page, &source)
 }
@@ -101,7 +104,7 @@ fn draw_parts(
     draw_facts(page, source);
     draw_apps(alloc, page, source)?;
     draw_steps(page, source.facts.folder);
-    draw_loads(page, source.report);
+    draw_loads(page, source);
     draw_requests(page, source.report);
     draw_whole(alloc, page, source.report)
 }

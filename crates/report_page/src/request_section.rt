@@ -1,17 +1,21 @@
 //! The sections of loads and of requests, and the whole report.
 
-use crate::elements::{close_table, number_cell, open_table, put, put_time, put_wait, remark};
+use crate::elements::{
+    close_table, number_cell, open_table, put, put_as, put_time, put_wait, remark,
+};
+use crate::source::PageSource;
 use markup::{Class, Document, Tag};
 use report::{LineQuestion, Question, Report, report_text};
 use std::alloc::{AllocError, Global};
 use std::collections::BTreeMap;
+use timeline::is_load_among;
 
-/// Draws the loads.
-pub(crate) fn draw_loads(page: &mut Document, report: &Report) {
+/// Draws the loads. Those that no step explains are marked.
+pub(crate) fn draw_loads(page: &mut Document, source: &PageSource<'_>) {
     page.open(Tag::Section);
     put(page, Tag::Heading, "Loads");
     page.line();
-    match report.tally(Question::Line(LineQuestion::Load)) {
+    match source.report.tally(Question::Line(LineQuestion::Load)) {
         Some(loads) if !loads.rows().is_empty() => {
             open_table(
                 page,
@@ -19,7 +23,8 @@ pub(crate) fn draw_loads(page: &mut Document, report: &Report) {
                 3,
             );
             for (name, n) in loads.rows().iter() {
-                draw_load(page, name.as_str(), *n);
+                let is_marked = is_load_among(source.unexplained, name.as_str());
+                draw_load(page, name.as_str(), *n, is_marked);
             }
             close_table(page);
             draw_others(page, loads.others());
@@ -31,19 +36,21 @@ pub(crate) fn draw_loads(page: &mut Document, report: &Report) {
 }
 
 // A load: its time, and then as it is.
-fn draw_load(page: &mut Document, name: &str, n: u64) {
+fn draw_load(page: &mut Document, name: &str, n: u64, is_marked: bool) {
     page.open(Tag::TableRow);
-    let mut is_time = true;
-    for text in name.split('\t') {
-        page.open(Tag::TableCell);
-        if is_time {
-            put_time(page, text);
-        } else {
-            page.text(text);
-        }
-        page.close();
-        is_time = false;
+    let (time, others) = name.split_once('\t').unwrap_or((name, ""));
+    page.open(Tag::TableCell);
+    put_time(page, time);
+    page.close();
+    let (generation, path) = others.split_once('\t').unwrap_or((others, ""));
+    put(page, Tag::TableCell, generation);
+    page.open(Tag::TableCell);
+    page.text(path);
+    if is_marked {
+        page.text(" ");
+        put_as(page, Tag::Bold, Class::Bad, "no step explains it");
     }
+    page.close();
     number_cell(page, n);
     page.close();
     page.line();

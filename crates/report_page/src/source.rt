@@ -22,6 +22,8 @@ pub(crate) struct PageSource<'a> {
     pub state: &'a [&'a str],
     /// A server's counters that aren't 0.
     pub cells: &'a [CellAssignment<'a>],
+    /// The loads that no step explains: of each its row with the digest.
+    pub unexplained: &'a [&'a str],
 }
 
 impl<'a> PageSource<'a> {
