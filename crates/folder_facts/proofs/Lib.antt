@@ -1,2 +1,3 @@
 pub mod AllRead
 pub mod CellQuotas
+pub mod Left

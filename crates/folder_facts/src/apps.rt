@@ -1,13 +1,15 @@
 //! What each app of a manifest is offered, as a page shows it.
 
-ghost use Rattle.std.specs.Prelude.{◌≡◌, All, IfOk, List, string_bytes};
+ghost use Rattle.std.specs.Prelude.{◌≡◌, All, IfOk, IfSome, List, string_bytes};
 ghost use Rattle.cells.specs.Directory.{Declaration};
+ghost use Rattle.folder_facts.specs.Digests.{IsDigestOf};
 ghost use Rattle.folder_facts.specs.Offered.{AreOffered, IsQuotaIn};
 
+use crate::digest::digest_text;
 use crate::quotas::quotas_of;
 use crate::unread::{no_file, no_more_apps};
 use declarations::ArrayDeclaration;
-use load::{AppSources, Sources, whole_file};
+use load::{AppSources, CollectedManifest, Sources, whole_file};
 use manifest::{AppEntry, ProgramSource};
 use printing::TextBuffer;
 use report_page::{OfferedApp, OfferedQuota};
@@ -16,10 +18,12 @@ use stage_rules::halting_file;
 use stage_text::{RuleText, rule_lines, rule_text};
 use std::alloc::{AllocError, Global};
 
-/// The apps that are shown, and a sentence for each file that can't be read.
+/// The apps that are shown, the digest of what is in place, and a sentence for each file that can't
+/// be read.
 #[derive(Drop)]
 pub(crate) struct ShownApps {
     pub(crate) apps: Vec<OfferedApp>,
+    pub(crate) digest: Option<String>,
     pub(crate) unread: Vec<String>,
 }
 
@@ -150,14 +154,24 @@ fn offered_apps(
     Ok(apps)
 }
 
-/// What the apps of a manifest are offered, by their files.
-pub(crate) fn shown_apps(alloc: Global, sources: &Sources) -> Result<ShownApps, AllocError>
-    ensures { IfOk result (λ shown. AreOffered sources.now shown.apps.items) }
+/// What the apps of a manifest are offered, by their files, and its digest.
+pub(crate) fn shown_apps(
+    alloc: Global,
+    collected: &CollectedManifest,
+) -> Result<ShownApps, AllocError>
+    ensures apps { IfOk result (λ shown. AreOffered collected.now.sources shown.apps.items) }
+    ensures digest { IfOk result (λ shown. IfSome shown.digest (IsDigestOf collected.now)) }
 {
+    let sources = &collected.sources;
     let mut unread = Vec::new(alloc);
     let apps = offered_apps(alloc, sources, &mut unread)?;
     if sources.unread > 0 {
         unread.push(no_more_apps(alloc, sources.unread)?)?;
     }
-    Ok(ShownApps { apps, unread })
+    let digest = digest_text(alloc, collected)?;
+    Ok(ShownApps {
+        apps,
+        digest,
+        unread,
+    })
 }

@@ -5,7 +5,9 @@
 #![tactic(auto)]
 
 mod apps;
+mod digest;
 mod facts;
+mod left;
 mod quotas;
 mod steps;
 mod unread;

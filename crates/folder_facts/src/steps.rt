@@ -1,11 +1,14 @@
 //! The last steps of a folder, as a page shows them.
 
 ghost use Rattle.std.specs.Prelude.{◌≡◌, ◌-◌, [], IfOk, length};
+ghost use Rattle.folder_facts.specs.Digests.{AreLeft};
 ghost use Rattle.folder_facts.specs.Shown.{AreStepsShown, AreTaken};
 ghost use Rattle.folder_facts.specs.Shown as specs;
 
+use crate::left::{LeftDigests, MOST_STEPS, Recorded, left_digests, no_digests};
 use crate::unread::{no_record, no_records};
 use attrs::Text;
+use bounded_files::Disk;
 use printing::TextBuffer;
 use report_page::TakenStep;
 use stage_folder::{RecordedSteps, StageFolder, recorded_steps};
@@ -13,15 +16,13 @@ use stage_records::{StagingStep, StepAction};
 use stage_text::{push_action, step_state, time_of};
 use std::alloc::{AllocError, Global};
 
-/// How many steps are shown.
-const MOST_STEPS: usize = 20;
-
 /// The steps that are shown, the newest first, and a sentence for each record that can't be read.
 #[derive(Drop)]
 pub(crate) struct ShownSteps {
     pub(crate) steps: Vec<TakenStep>,
     /// How many steps were taken before these.
     pub(crate) earlier: u64,
+    pub(crate) left: LeftDigests,
     pub(crate) unread: Vec<String>,
 }
 
@@ -31,7 +32,8 @@ fn action_text(alloc: Global, action: &StepAction) -> Result<String, AllocError>
     text.finish()
 }
 
-// What a step did to its app, in few words, such as `raise to 5 %`; and that it isn't in force.
+// What a step did to its app, in few words, such as `raise to 5 %`; and its state, unless it is
+// done.
 fn label_of(alloc: Global, action: &StepAction, state: &str) -> Result<String, AllocError> {
     let mut text = TextBuffer::new(alloc);
     match action {
@@ -142,9 +144,11 @@ fn unread_records(alloc: Global, numbers: &[u32]) -> Result<Vec<String>, AllocEr
 }
 
 // The steps of these records.
-fn shown_of<F: StageFolder>(
+fn shown_of<D: Disk, F: StageFolder>(
     alloc: Global,
+    disk: &D,
     folder: &F,
+    manifest: &str,
     recorded: &RecordedSteps,
 ) -> Result<ShownSteps, AllocError>
     ensures taken { IfOk result
@@ -153,29 +157,58 @@ fn shown_of<F: StageFolder>(
         (λ shown. length shown.unread.items ≡ length recorded.now.unread.items) }
     ensures earlier { IfOk result
         (λ shown. shown.earlier ≡ length recorded.now.steps.items - 20) }
+    ensures left { IfOk result (λ shown. AreLeft (D.known disk.now) manifest.now
+        recorded.now.steps.items shown.left.digests.items) }
 {
     let steps = taken_steps(alloc, folder, &recorded.steps)?;
     let unread = unread_records(alloc, &recorded.unread)?;
     let earlier = recorded.steps.len().saturating_sub(MOST_STEPS) as u64;
+    let left = left_if_read(alloc, disk, manifest, recorded)?;
     Ok(ShownSteps {
         steps,
         earlier,
+        left,
         unread,
     })
 }
 
+// What the steps left, unless a record can't be read.
+fn left_if_read<D: Disk>(
+    alloc: Global,
+    disk: &D,
+    manifest: &str,
+    recorded: &RecordedSteps,
+) -> Result<LeftDigests, AllocError>
+    ensures { IfOk result (λ left. AreLeft (D.known disk.now) manifest.now
+        recorded.now.steps.items left.digests.items) }
+{
+    if !recorded.unread.is_empty() {
+        return Ok(no_digests(alloc));
+    }
+    let steps = recorded.steps.as_slice();
+    let recorded = Recorded {
+        disk,
+        manifest,
+        steps,
+    };
+    left_digests(alloc, &recorded)
+}
+
 /// The last steps of a folder. If its records, or one of them, can't be opened, it has none, and a
 /// sentence says why.
-pub(crate) fn shown_steps<F: StageFolder>(
+pub(crate) fn shown_steps<D: Disk, F: StageFolder>(
     alloc: Global,
+    disk: &D,
     folder: &F,
+    manifest: &str,
 ) -> Result<ShownSteps, AllocError>
     ensures { IfOk result (λ shown. shown.unread.items ≡ []
-        → AreStepsShown (F.records folder.now) shown.steps.items shown.earlier) }
+        → AreStepsShown (D.known disk.now) manifest.now (F.records folder.now)
+        shown.steps.items shown.earlier shown.left.digests.items) }
 {
     match recorded_steps(alloc, folder) {
         Ok(recorded) => {
-            let shown = shown_of(alloc, folder, &recorded);
+            let shown = shown_of(alloc, disk, folder, manifest, &recorded);
             drop(recorded);
             shown
         }
@@ -184,6 +217,7 @@ pub(crate) fn shown_steps<F: StageFolder>(
             Ok(ShownSteps {
                 steps: Vec::new(alloc),
                 earlier: 0,
+                left: no_digests(alloc),
                 unread: Vec::from_array(alloc, [sentence])?,
             })
         }
