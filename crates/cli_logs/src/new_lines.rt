@@ -7,7 +7,7 @@ ghost use Rattle.cli_logs.specs.Reports.{CountsLogs};
 use crate::log_part::{BegunPart, begin_part};
 use crate::progress_lines::ProgressLines;
 use crate::report_fault::ReportFault;
-use crate::reporting::{fault_of, path_of};
+use crate::reporting::{fault_of, path_of, seconds_now};
 use crate::same_places::{are_same, copies_of};
 use bounded_files::ResourceFault;
 use report::{Report, Window, count_log};
@@ -16,7 +16,7 @@ use std::alloc::{AllocError, Global};
 use std::fs;
 use std::io::{self, Read, Seek, SeekFrom};
 use std::rt::Files;
-use std::time::{Clock, SystemTime, UNIX_EPOCH};
+use std::time::Clock;
 
 /// The places after the new lines, and the course with them; and whether the state changes: lines
 /// were read, or the places aren't the same, or not in the same order.
@@ -95,7 +95,10 @@ where
     if !is_read {
         return Ok(Some(course));
     }
-    let present = present_minute(rt)?;
+    let present = match seconds_now(rt) {
+        Ok(seconds) => seconds / 60,
+        Err(fault) => return Err(ReportFault::Resource(fault)),
+    };
     match continued_course(rt.alloc(), course, part, present) {
         Ok(course) => Ok(Some(course)),
         Err(_) => Err(ReportFault::Resource(ResourceFault::Memory)),
@@ -111,17 +114,6 @@ fn continued_course(
     let mut course = course.continue_by(alloc, part, present)?;
     course.note_faults(alloc, Faults::of_report(part), present)?;
     Ok(course)
-}
-
-// The minute of the clock since 1970.
-fn present_minute<R: Clock>(rt: &R) -> Result<u64, ReportFault> {
-    let Ok(now) = SystemTime::now(rt) else {
-        return Err(ReportFault::Resource(ResourceFault::File));
-    };
-    match now.duration_since(UNIX_EPOCH) {
-        Ok(since) => Ok(since.as_secs() / 60),
-        Err(_) => Err(ReportFault::Resource(ResourceFault::File)),
-    }
 }
 
 // Counts the new lines of each log in a report, and in `part` if they are drawn.

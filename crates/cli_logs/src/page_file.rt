@@ -30,12 +30,13 @@ pub(crate) fn require_page<R: Files + AllocGlobal>(
 // open: what it returns: rows.
 pub fn may_be_page<R: Files + AllocGlobal>(rt: &R, path: &str) -> Result<bool, ResourceFault> {
     match fs::metadata(rt, path) {
-        Ok(found) if found.is_file() => { begins_so(rt, path).map_err(|error| fault_of(&error)) }
+        Ok(found) if found.is_file() => { is_page(rt, path).map_err(|error| fault_of(&error)) }
         _ => Ok(true),
     }
 }
 
-fn begins_so<R: Files + AllocGlobal>(rt: &R, path: &str) -> io::Result<bool> {
+// Whether a file is empty, or begins as a page does.
+fn is_page<R: Files + AllocGlobal>(rt: &R, path: &str) -> io::Result<bool> {
     let file = fs::open(rt, path)?;
     let mut first = Vec::new(rt.alloc());
     file.take(PAGE_BEGINNING.len() as u64)

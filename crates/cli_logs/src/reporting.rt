@@ -185,14 +185,20 @@ where
 }
 
 fn now_of<R: Clock>(rt: &R) -> Result<Timestamp, ResourceFault> {
+    let seconds = seconds_now(rt)?;
+    match Timestamp::from_nanosecond(seconds as i128 * 1_000_000_000) {
+        Ok(now) => Ok(now),
+        Err(_) => Err(ResourceFault::File),
+    }
+}
+
+/// The seconds of the clock since 1970.
+pub(crate) fn seconds_now<R: Clock>(rt: &R) -> Result<u64, ResourceFault> {
     let Ok(now) = SystemTime::now(rt) else {
         return Err(ResourceFault::File);
     };
-    let Ok(since) = now.duration_since(UNIX_EPOCH) else {
-        return Err(ResourceFault::File);
-    };
-    match Timestamp::from_nanosecond(since.as_secs() as i128 * 1_000_000_000) {
-        Ok(now) => Ok(now),
+    match now.duration_since(UNIX_EPOCH) {
+        Ok(since) => Ok(since.as_secs()),
         Err(_) => Err(ResourceFault::File),
     }
 }
