@@ -27,6 +27,8 @@ OFFERED = ["2.1 to 5 % of machines below 2.1", "else 2.0 to all below 2.0",
 GRANTED = ["first[0]", f"{QUOTA} of {QUOTA}", ""]
 TAKEN = [["2", "raise editor 500", "anna", "2.1 to the first 5 %", "done"],
          ["1", "put next.toml", "ben", "viewer 5.1: <20 machines>", "done"]]
+# The load whose digest is neither in place nor a step's, but for its time.
+MARKED = ["6", "/tmp/m.toml no step explains it", "1"]
 
 
 def made(folder):
@@ -72,8 +74,9 @@ def misshown(dom, port):
     """What a page says otherwise than the folder and its server."""
     rows = dom.rows
     steps = [[it[0], *it[2:]] for it in rows if len(it) == 6]
+    loads = [it[1:] for it in rows if len(it) == 4]
     for wanted, found in ((OFFERED, dom.items), ([GRANTED], [it for it in rows if len(it) == 3]),
-                          (TAKEN, steps)):
+                          (TAKEN, steps), ([MARKED], loads)):
         if missing := [it for it in wanted if it not in found]:
             return f"{missing} isn't in {found}"
     if f"rollout stage halt editor --operator {port}" not in dom.commands[:1]:

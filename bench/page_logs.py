@@ -48,8 +48,8 @@ def course(app, versions, minutes, offered_from, failing, machines=2, share=0.25
                 yield connection(minute, [asks(app, random.choice([old, old, old, older]))])
 
 
-def load(minute, path, generation):
-    return {"time": minute, "kind": "load", "path": path, "generation": generation}
+def load(minute, path, generation, **more):
+    return {"time": minute, "kind": "load", "path": path, "generation": generation, **more}
 
 
 def with_totals(lines, longest_wait):
@@ -82,7 +82,7 @@ def bad_night():
     yield from course("editor", ("1.9", "2.0", "2.1"), minutes, 560, 0.6, 8, 0.12)
     yield from course("viewer", ("4.9", "5.0", "5.1"), minutes, 510, 0.01)
     yield load(560, "/etc/rollout/manifest.toml", 5)
-    yield load(591, "/tmp/m.toml", 6)
+    yield load(591, "/tmp/m.toml", 6, digest="8e13a521" * 8)
     yield {"time": 588, "kind": "lost", "lines": 12}
     yield from [connection(600, [], 500, refusal="O9 Answer")] * 3
     yield from [connection(601, [], 400, refusal="O3 Protocol")] * 4
