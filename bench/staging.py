@@ -205,6 +205,7 @@ def older_server(folder):
     status says so, and the server's log decides. A halt is there by its load. A page of a report
     has its counters only."""
     it = Stage(folder / "older")
+    it.write("agent.toml", manifest([('[[app]]\nappid = "agent"', 'rule = "editor.rule"')]))
     unsure = "the apps in place; only its log shows which rules it loaded (--log LOG)\n"
     with it.served(), older() as port:
         calls = (
@@ -217,6 +218,8 @@ def older_server(folder):
             ("stage status", 1, f"generation 3, {unsure}"),
             ("stage status --log server.log", 0, "what is in place was loaded last\n"),
             ("stage halt editor 2>&1", 0, "it is older, and halts editor by a load alone\n"),
+            ("load /etc/rollout/agent.toml", 0, "generation 5\n"),
+            ("stage status", 1, "generation 5, other apps than those in place: load it\n"),
             ("report server.log --html page.html", 0, ""),
         )
         if w := wrong_served(it, [(f"{words} --operator {port}", *more) for words, *more in calls]):
