@@ -6,11 +6,13 @@ from nightly.rules import KNOWN, load_of
 
 SERVES = re.compile(
     r"^(?:stage: )?server at (\d+)(?: serves|: generation \d+,|: not loaded, it serves) "
-    r"(step \d+|what was there before the first step|what stage loaded last|what no step left)\b",
+    r"(step \d+|what was there before the first step|what stage loaded last|"
+    r"what no step is known to have left)\b",
     re.M,
 )
 FIRST, UNDONE, OTHER = (
-    "what was there before the first step", "what stage loaded last", "what no step left",
+    "what was there before the first step", "what stage loaded last",
+    "what no step is known to have left",
 )
 SINCE = re.compile(r"(\S+) was edited since step (\d+), which the server at (\d+) serves")
 UNLIKE = re.compile(r"(\S+) isn't as step (\d+) left it")
@@ -46,7 +48,7 @@ def left_by_each(night):
 
 
 def is_other(night, known, server):
-    """Whether a server has an app that isn't known in this folder, and serves what no step left;
+    """Whether a server has an app that isn't known in this folder, and serves what no step is known to have left;
     None if a step left it that is undone, or before a file was edited that no step has."""
     if not set(server.load.appids()) - known or server.load in left_by_each(night):
         return False

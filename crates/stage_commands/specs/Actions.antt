@@ -47,8 +47,8 @@ module _ (known : KnownFiles) (manifest : List ℕ) (options : StageOptions) whe
       IsStaged action old_records new_records old new ⊎ IsLeft old_records new_records old new
 
 -- without a server, and without `--anyway`, an action that changes files, but no halt, is done only
--- if each record is read, and no file that a step replaced was edited since, but by steps that are
--- undone; for `back`, but the files of its own step
+-- if each record is read, and each file that a step which isn't undone replaced is as the last of
+-- these left it; for `back`, but those of its own step
 abbrev pub HasNoEdits : StageOptions → StageAction → KnownRecords → KnownFolder → Type 0
 HasNoEdits options action records files = options.no_load ≡ true
     → compares_files options action [] ≡ true → IsUnedited (is_back action) records files

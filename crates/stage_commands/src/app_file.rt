@@ -124,7 +124,7 @@ where
     let Some(other) = found else {
         return Ok(app);
     };
-    let refusal = one_file(alloc, app, other);
+    let refusal = one_file(alloc, app.entry.source().file(), other.entry.appid());
     match lines.go_on_if(call.options.anyway, refusal) {
         Ok(()) => Ok(app),
         Err(stop) => Err(stop),

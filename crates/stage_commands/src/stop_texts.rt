@@ -114,16 +114,12 @@ pub(crate) fn release_halted(alloc: Global, appid: &str, version: &str, number: 
     refusal(text)
 }
 
-/// Another app has the same file. If it names it otherwise, only the first one is compared.
-pub(crate) fn one_file(alloc: Global, app: &AppSources, other: &AppSources) -> Stop {
-    let (file, too) = (app.entry.source().file(), other.entry.source().file());
+/// Another app has the same file. One that names it otherwise isn't compared.
+pub(crate) fn one_file(alloc: Global, file: &str, other: &str) -> Stop {
     let mut text = TextBuffer::new(alloc);
     text.push_printed("", file, " is the file of app ");
-    text.push_printed("", other.entry.appid(), ", too (");
-    if file != too {
-        text.push_printed("as ", too, ", so it isn't compared; ");
-    }
-    text.push("--anyway changes both)");
+    text.push_printed("", other, ", too (--anyway changes each app of it; ");
+    text.push("one that names it otherwise isn't compared)");
     refusal(text)
 }
 

@@ -12,8 +12,8 @@ abbrev pub IsGatheredAs : (digest : List ℕ) → Option CollectedManifest → T
 IsGatheredAs digest (Some manifest) = HasDigest digest manifest
 IsGatheredAs digest None = ⊥
 
--- the servers are known to serve what is in place, by what they say, and by a log, if there is one;
--- or by the log of the only one. None has to reply without a load: it counts as said then
+-- the servers are known to serve what is in place, by what is known of them, and by a log, if there
+-- is one; or by the log of the only one. With `--no-load` they count as known
 abbrev pub AreServed : (servers log : Option Bool) → (ports : List ℕ) → Type 0
 AreServed None None ports = ⊥
 AreServed None (Some logged) ports = (logged ≡ true) × (length ports ≡ 1)

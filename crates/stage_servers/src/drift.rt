@@ -27,7 +27,11 @@ pub fn push_serves(text: &mut TextBuffer, serves: &Serves) {
         Serves::Step { number, .. } => text.push_number("step ", *number as u64, ""),
         Serves::LastLoaded => text.push("what stage loaded last"),
         Serves::Other { loaded, .. } => {
-            text.push_printed("what no step left, loaded ", loaded.as_str(), "")
+            text.push_printed(
+                "what no step is known to have left, loaded ",
+                loaded.as_str(),
+                "",
+            )
         }
         Serves::InPlace | Serves::Unknown => text.push("what is in place"),
     }

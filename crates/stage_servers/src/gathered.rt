@@ -10,7 +10,7 @@ use load::{CollectedManifest, LoadFault, PathFault, collect_manifest};
 use std::alloc::Global;
 
 /// Whether a fault is about the manifest: it can't be read, isn't one, or has an array that can't
-/// be declared. Otherwise memory ran out.
+/// be declared. The others for which gathering fails are that memory ran out.
 pub fn precedes_files(fault: &PathFault) -> bool
     ensures { result ≡ specs.precedes_files fault.now }
 {

@@ -12,8 +12,9 @@
 // files are changed, each server loads the manifest (`loads.rt`), but one that is spared
 // (`spared_servers.rt`). Then it offers those apps again (`halt_ends.rt`) which these files surely
 // offer (`lifted_halts.rt`): of a resume its own, of a put and `back` with `--anyway` those whose
-// recorded halts were in force before. Its reply is noted (`load_notes.rt`), by which a status
-// knows what an older server serves (`servers.rt`).
+// recorded halts were in force before; and after a halt of one release its app. Its reply to the
+// load is noted (`load_notes.rt`), by which a status knows what an older server serves
+// (`servers.rt`).
 //
 // A server's replies are its own. What is known of files is what `load` gathers.
 

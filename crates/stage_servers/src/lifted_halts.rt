@@ -72,7 +72,7 @@ where
 }
 
 // The same; none without `--anyway`, since a put and `back` then lift no halt: but for a `back` of
-// a step that is no halt, if a manifest can't be gathered.
+// a step that isn't a halt, if a manifest can't be gathered.
 fn halted_if<R, D, F>(
     call: &StageCall<'_, R, D>,
     folder: &F,
@@ -180,7 +180,7 @@ fn note_if_unread(alloc: Global, apps: &[AppSources], appids: &[String], lines: 
 
 /// Those of these apps that the manifest in place surely offers, once the files are changed; none
 /// for `--dry-run`. If it can't be gathered, or the file of one of these apps can't be read, this
-/// is noted as amiss, with what to call.
+/// is noted as amiss, with what to call. So is memory that ran out, alone.
 // open: which apps these are, and what is noted: rows.
 pub fn apps_lifted<R, D>(
     call: &StageCall<'_, R, D>,

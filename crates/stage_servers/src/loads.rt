@@ -70,10 +70,10 @@ fn is_complete(loads: &Loads) -> bool {
     loads.refused.is_empty() && !loads.has_left_out
 }
 
-// Adds that an app stays halted if a halt of one release isn't loaded.
+// Adds that an app may stay halted if a halt of one release isn't loaded.
 fn push_stays(stderr: &mut TextBuffer, action: &StageAction<'_>) {
     if let StageAction::HaltRelease { appid, version } = *action {
-        stderr.push_printed("stage: ", appid, " stays halted there: mend that, ");
+        stderr.push_printed("stage: ", appid, " may stay halted there: mend that, ");
         stderr.push_printed("call stage halt ", appid, " ");
         stderr.push_printed("", version, " again, and then ");
         stderr.push_printed("rollout resume ", appid, "\n");

@@ -17,14 +17,15 @@ pub struct StageOutcome {
 }
 
 /// The lines that are printed so far; the operator's ports of the servers at which this call halted
-/// an app, though not yet in the files, and of those that are to offer it again then; and whether
-/// something is amiss, though all is done.
+/// an app, though not yet in the files, and of those that are to offer it again then; whether some
+/// other server may have halted it; and whether something is amiss, though all is done.
 #[derive(Drop)]
 pub struct Lines {
     pub text: TextBuffer,
     pub stderr: TextBuffer,
     halted_at: Vec<u16>,
     offered_at: Vec<u16>,
+    may_be_halted: bool,
     is_amiss: bool,
 }
 
@@ -59,6 +60,7 @@ impl Lines {
             stderr: TextBuffer::new(alloc),
             halted_at: Vec::new(alloc),
             offered_at: Vec::new(alloc),
+            may_be_halted: false,
             is_amiss: false,
         }
     }
@@ -70,6 +72,11 @@ impl Lines {
         if !noted || is_offered && self.offered_at.push(port).is_err() {
             self.stderr.leave_out();
         }
+    }
+
+    /// Notes that a server may have halted an app, though its reply didn't arrive.
+    pub(crate) fn note_lost_reply(&mut self) {
+        self.may_be_halted = true;
     }
 
     /// The ports of the servers at which the app of a halt is halted.
@@ -121,9 +128,10 @@ impl Lines {
         self.push_halted();
     }
 
-    // What hasn't changed, if a call stops before it changes a file.
+    // What hasn't changed, if a call stops before it changes a file: nothing, if no server halts an
+    // app by now, or may do so.
     fn unchanged(&self) -> &'static str {
-        if self.halted_at.is_empty() {
+        if self.halted_at.is_empty() && !self.may_be_halted {
             return "; nothing has changed\n";
         }
         "; no file has changed\n"

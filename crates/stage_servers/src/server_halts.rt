@@ -47,6 +47,9 @@ where
             true
         }
         Err(fault) => {
+            if matches!(&fault, RequestFault::Connect) {
+                lines.note_lost_reply();
+            }
             push_no_halt(&mut lines.stderr, port, appid, fault);
             false
         }

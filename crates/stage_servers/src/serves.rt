@@ -24,7 +24,7 @@ pub enum Serves {
         files: Vec<ReplacedFile>,
         digest: [u8; 32],
     },
-    /// What `stage` loaded there last, and no step left that isn't undone.
+    /// What `stage` loaded there last, and no step is known to have left.
     LastLoaded,
     /// Something else, from this time and path. If it has an app that is neither in place nor in
     /// the next manifest, it is another server. If the manifest in place can't be gathered, each

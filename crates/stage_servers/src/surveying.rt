@@ -37,7 +37,7 @@ fn strange_app(alloc: Global, shown: &str, place: &Place) -> Result<Option<Strin
     Ok(None)
 }
 
-// What a server serves that no step left so.
+// What a server serves that no step is known to have left.
 fn served_else<R>(
     rt: &R,
     port: u16,
