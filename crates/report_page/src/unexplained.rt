@@ -44,9 +44,20 @@ fn is_unexplained(known: &FolderDigests, row: &str) -> bool {
 
 // Whether a load at this time may be judged.
 fn is_judged(known: &FolderDigests, time: &str) -> bool {
-    match (known.since, second_of_time(time)) {
-        (Some(since), Some(second)) => second as i128 >= since as i128,
-        _ => false,
+    let Some(since) = known.since else {
+        return false;
+    };
+    match second_of_time(time) {
+        Some(second) => is_from(since, second),
+        None => false,
+    }
+}
+
+// Whether a second is this one, or a later one.
+fn is_from(since: u64, second: i64) -> bool {
+    match u64::try_from(second) {
+        Ok(second) => second >= since,
+        Err(_) => false,
     }
 }
 
