@@ -1,3 +1,3 @@
 pub mod AllRead
 pub mod CellQuotas
-pub mod Left
+pub mod LeftDigests

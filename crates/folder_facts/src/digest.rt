@@ -7,7 +7,7 @@ use load::{CollectedManifest, digest_of, whole_file};
 use std::alloc::{AllocError, Global};
 
 /// The digest in hexadecimal digits; `None` if a file isn't whole.
-#[tactic(auto, using(crate::proofs::Left::digest_shown))]
+#[tactic(auto, using(crate::proofs::LeftDigests::digest_shown))]
 pub(crate) fn digest_text(
     alloc: Global,
     collected: &CollectedManifest,

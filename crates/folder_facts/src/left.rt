@@ -41,7 +41,6 @@ pub(crate) struct LeftDigests {
 
 // Adds the digest of what the first `count` steps left; those from the place `first` on count as
 // done. Returns how many bytes were gathered; `None` if something can't be read.
-#[tactic(auto, using(crate::proofs::Left::left_shown))]
 fn push_left<D: Disk>(
     alloc: Global,
     recorded: &Recorded<'_, D>,
