@@ -120,9 +120,10 @@ def is_loaded(night, call, plan, known, server, output):
         return call.other_server
     is_cut = set(server.load.appids()) - known and any(it.is_damaged for it in night.steps)
     if is_strange is None or is_cut:
-        # Perhaps only the cut record knows what it serves: then it is another one.
+        # Perhaps only the cut record knows what it serves: then it is another one, unless it is what
+        # `stage` loaded last.
         halted = call.word == "halt" and call.appid in server.halts
-        return call.other_server or len(generations(output, server.operator)) > halted
+        return len(generations(output, server.operator)) > halted
     if call.word != "halt" or call.anyway or server.load in (plan.now, plan.then):
         return True
     loads = [it for it in (plan.now, plan.then) if it]

@@ -27,9 +27,14 @@ class Plan:
     then: object = None
 
 
+def remaining(night):
+    """The steps that aren't undone."""
+    return [it for it in night.steps if not it.is_undone]
+
+
 def having(night, file):
     """The steps that replaced a file and aren't undone."""
-    return [it for it in night.steps if not it.is_undone and file in it.after]
+    return [it for it in remaining(night) if file in it.after]
 
 
 def is_in_force(night, appid, file, or_of_a_release=False):
@@ -67,7 +72,7 @@ def may_be_in_force(night, app):
 
 
 def is_halted_by_a_step(night, appid):
-    return any(it.action == f"halt {appid}" and not it.is_undone for it in night.steps)
+    return any(it.action == f"halt {appid}" for it in remaining(night))
 
 
 def app_in(load, appid):
@@ -111,9 +116,10 @@ def drifts(night, call, plan):
         elif call.word == "put" and load_of(left_by_steps(night)) == server.load:
             plan.perhaps.add("drift")
         elif (call.word == "back" and load_of(left_by_steps(night)) == server.load
-              and not is_edited(night, call)):
+              and not is_edited(night, call) and (left := remaining(night))):
             # The files of the step are compared when it is undone.
-            continue
+            if any(it.is_damaged for it in left):
+                plan.perhaps.add("drift")
         else:
             plan.stops.add("drift")
 
@@ -245,22 +251,28 @@ def plan_put(night, call, plan):
             plan.maybe_lifted.append(app.appid)
             if not call.anyway:
                 (plan.stops if may and app.file == after.file else plan.perhaps).add("lifts")
-    # An app that the manifest in place doesn't have isn't offered, so its halt by a step is in force.
-    for app in load_of(call.source).apps:
-        if plan.files[app.file] == NOTHING[app.kind] or not is_halted_by_a_step(night, app.appid):
-            continue
-        if present and not app_in(present, app.appid):
-            plan.lifted.append(app.appid)
-            if not call.anyway:
-                plan.stops.add("lifts")
-        elif plan.now is None:
-            plan.maybe_lifted.append(app.appid)
+    lifts_of_absent(night, call, plan, load_of(call.source), plan.files)
     if plan.now is None and "current.toml" in night.files:
         plan.perhaps |= {"lost", "refused", "lifts"}
 
 
+def lifts_of_absent(night, call, plan, then, files):
+    """An app that the manifest in place doesn't have isn't offered, so its halt by a step is in
+    force."""
+    for app in then.apps if then else ():
+        text = files.get(app.file)
+        if text in (None, NOTHING[app.kind]) or not is_halted_by_a_step(night, app.appid):
+            continue
+        if plan.now is None:
+            plan.maybe_lifted.append(app.appid)
+        elif not app_in(plan.now, app.appid):
+            plan.lifted.append(app.appid)
+            if not call.anyway:
+                plan.stops.add("lifts")
+
+
 def plan_back(night, call, plan):
-    left = [it for it in night.steps if not it.is_undone]
+    left = remaining(night)
     if not left:
         plan.stops.add("none")
         return
@@ -286,6 +298,8 @@ def plan_back(night, call, plan):
         if lifts_a_release(night, app, step.before.get(app.file)) is not False:
             plan.perhaps.add("lifts")
             plan.maybe_lifted.append(app.appid)
+    files = {n: text for n, text in (night.files | step.before).items() if text is not None}
+    lifts_of_absent(night, call, plan, load_of(files), files)
 
 
 PLANS = {

@@ -22,9 +22,10 @@ STATES = re.compile(r"(\S+) of step (\d+) (isn't replaced yet|was edited since)"
 def left_by_steps(night):
     """The files as the last step left them, whatever was edited since."""
     files = dict(night.files)
+    for step in reversed(night.steps):
+        files |= step.before
     for step in night.steps:
-        for name, bytes_after in (step.before if step.is_undone else step.after).items():
-            files[name] = bytes_after
+        files |= {} if step.is_undone else step.after
     return {name: text for name, text in files.items() if text is not None}
 
 
