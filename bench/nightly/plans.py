@@ -6,7 +6,7 @@ from nightly.calls import Step
 from nightly.rules import (
     NOTHING, RELEASES, choice, load_of, loses, offers, with_share, without,
 )
-from nightly.served import is_other, known_apps, left_by_steps
+from nightly.served import is_other, known_apps, left_by_each, left_by_steps
 
 
 @dataclass
@@ -112,6 +112,9 @@ def drifts(night, call, plan):
             plan.perhaps.add("drift")
             continue
         if call.word in ("put", "back") and plan.then == server.load:
+            plan.perhaps.add("drift")
+        elif call.word == "back" and server.load in [*left_by_each(night)][-2:-1]:
+            # It serves the step before, whatever was edited since.
             plan.perhaps.add("drift")
         elif call.word == "put" and load_of(left_by_steps(night)) == server.load:
             plan.perhaps.add("drift")
