@@ -218,6 +218,9 @@ def plan_resume(night, call, plan):
     if call.share and app.kind == "program":
         plan.stops.add("test")
         return
+    if call.share and choice("rule", before, "0", 0) is None:
+        plan.stops.add("refused")
+        return
     if call.share and (before := with_share(before, call.buckets())) is None:
         plan.stops.add("test")
         return
