@@ -5,7 +5,7 @@ use Rattle.std.specs.Prelude.{Some, None, Result, Ok, Err, IfErr, IfOk, OnOk, If
 use Rattle.std.specs.Prelude.{option_copied}
 use Rattle.stage_records.specs.Steps.{ReplacedFile, StagingStep, last_step}
 use Rattle.stage_records.specs.declared.step.StepAction.{StepAction}
-use Rattle.stage_folder.specs.Folders.{IsFree, KnownFolder, KnownRecords}
+use Rattle.stage_folder.specs.Folders.{FollowsRecord, IsFree, KnownFolder, KnownRecords}
 use Rattle.stage_folder.specs.Recorded.{AreRecordsAfter, IsRecorded, MayBeRecorded}
 use Rattle.stage_folder.specs.Steps.{IsFoundBy, IsPartlyDone, IsPartlyUndone, done}
 use Rattle.stage_folder.specs.Steps.{has_distinct_names, undone}
@@ -13,9 +13,9 @@ use Rattle.stage_folder.specs.declared.folder_fault.RecordFault.{RecordFault}
 use Rattle.stage_folder.specs.declared.folder_fault.RecordFault.TheVariants as fault
 use Rattle.stage_folder.specs.declared.records.RecordedSteps.{RecordedSteps}
 use Rattle.stage_commands.specs.Backs.{Undoes}
-use Rattle.stage_commands.specs.Taken.{AddAtMostOne, IsLast, IsLeft, IsLeftUndone, IsNext}
-use Rattle.stage_commands.specs.Taken.{IsTrueAfter, LeftBy, LeftByUndo, MayChange, RecordLeftBy}
-use Rattle.stage_commands.specs.Taken.{as_undone}
+use Rattle.stage_commands.specs.Taken.{AddAtMostOne, IsLast, IsLeft, IsLeftUndone, IsNewNumber}
+use Rattle.stage_commands.specs.Taken.{IsNext, IsTrueAfter, LeftBy, LeftByUndo, MayChange}
+use Rattle.stage_commands.specs.Taken.{RecordLeftBy, as_undone}
 use Rattle.stage_servers.specs.Whole.{AreAllRead}
 use Rattle.stage_commands.specs.Taken.{Performs, Takes, unchanged, partly_done, partly_undone}
 use Rattle.stage_servers.specs.declared.options.StageOptions.{StageOptions}
@@ -42,12 +42,16 @@ left_by stop.Memory old_records new_records old new left = left
 
 -- ---- a step
 
+pub new_number : (records : KnownRecords) (number : ℕ) → IsFree records number
+    → FollowsRecord records (Some number) → IsNewNumber records number
+new_number records number free follows = record { free = free; follows = follows }
+
 pub next_step : (records : KnownRecords) (folder : KnownFolder) (number : ℕ)
-    (files : List ReplacedFile) (step : StagingStep) → IsFree records number
+    (files : List ReplacedFile) (step : StagingStep) → IsNewNumber records number
     → IfSome folder (IsFoundBy files) → step.number ≡ number → step.files ≡ files
     → step.is_undone ≡ false → IsNext records folder step
-next_step records folder number files step free found numbered has not_yet = record {
-  free = subst (IsFree records) (sym numbered) free;
+next_step records folder number files step fresh found numbered has not_yet = record {
+  is_new = subst (IsNewNumber records) (sym numbered) fresh;
   not_undone = not_yet;
   found = subst (λ fs. IfSome folder (IsFoundBy fs)) (sym has) found;
 }

@@ -4,13 +4,14 @@ use Rattle.bounded_files.specs.Files.{KnownFiles}
 use Rattle.load.specs.Opened.{IsCollected}
 use Rattle.load.specs.declared.opened.CollectedManifest.{CollectedManifest}
 use Rattle.load.specs.declared.sources.AppSources.{AppSources}
-use Rattle.stage_folder.specs.Folders.{IsFree, KnownFolder, KnownRecords}
+use Rattle.stage_folder.specs.Folders.{KnownFolder, KnownRecords}
 use Rattle.stage_folder.specs.declared.records.RecordedSteps.{RecordedSteps}
 use Rattle.stage_records.specs.Steps.{ReplacedFile, StagingStep}
 use Rattle.stage_records.specs.declared.step.StepAction.TheVariants.{Put}
 use Rattle.stage_commands.specs.Compared.{IsAccepted}
 use Rattle.stage_commands.specs.PutPlans.{AreLiftedBy, IsPresent, IsPutPlan, IsUnrefused}
 use Rattle.stage_commands.specs.Puts.{AreChangesTo, LiftsNone, PlansPut, none_lifted, none_offered}
+use Rattle.stage_commands.specs.Taken.{IsNewNumber}
 use Rattle.stage_commands.proofs.Then.{lifts_nothing}
 use Rattle.stage_servers.specs.Whole.{AreAllRead}
 use Rattle.stage_commands.specs.declared.puts.PutPlan.{PutPlan}
@@ -46,14 +47,15 @@ plans known current manifest folder steps anyway files next collected accepted a
 
 pub put_plan : (known : KnownFiles) (current manifest : List ℕ) (anyway : Bool)
     (records : KnownRecords) (folder : KnownFolder) (plan : PutPlan) (recorded : RecordedSteps)
-    → AreAllRead records recorded → IsFree records plan.number → plan.action ≡ Put manifest
+    → AreAllRead records recorded → IsNewNumber records plan.number
+    → plan.action ≡ Put manifest
     → PlansPut known current manifest folder recorded.steps.items anyway plan.files.items
     → IsPutPlan known current manifest anyway records folder plan
 put_plan known current manifest anyway records folder plan recorded are number action files =
     record {
       recorded = recorded;
       are = are;
-      number_is = number;
+      is_new = number;
       action_is = action;
       files = files;
     }

@@ -4,7 +4,7 @@ use Rattle.std.proofs.Common.{subst, sym}
 use Rattle.std.specs.Prelude.{All, Bool, IfSome, option_map, option_to_list, false}
 use Rattle.std.proofs.lemmas.List.Elements.{All-cons, All-nil}
 use Rattle.bounded_files.specs.Files.{KnownFiles}
-use Rattle.stage_folder.specs.Folders.{IsFree, KnownFolder, KnownRecords, put, put_known}
+use Rattle.stage_folder.specs.Folders.{KnownFolder, KnownRecords, put, put_known}
 use Rattle.stage_folder.specs.Steps.{IsFoundBy, done, edited_place}
 use Rattle.stage_folder.specs.declared.records.RecordedSteps.{RecordedSteps}
 use Rattle.stage_records.specs.Steps.{ReplacedFile, StagingStep, last_step}
@@ -20,7 +20,7 @@ use Rattle.stage_commands.specs.PutPlans.{IsPutPlan}
 use Rattle.stage_commands.specs.ReleaseHalts.{HasHaltedRelease, PlansReleaseHalt}
 use Rattle.stage_commands.specs.Resumes.{HasResumed, PlansResume}
 use Rattle.stage_commands.specs.Stages.{HasHalted, HasRaised, PlansHalt, PlansRaise}
-use Rattle.stage_commands.specs.Taken.{IsTaken, Takes}
+use Rattle.stage_commands.specs.Taken.{IsNewNumber, IsTaken, Takes}
 use Rattle.stage_servers.specs.Whole.{AreAllRead, HasOnlySteps}
 use Rattle.stage_commands.specs.declared.puts.PutPlan.{PutPlan}
 use Rattle.stage_commands.proofs.Put.{StepsLeave, found_changes, in_place}
@@ -88,12 +88,12 @@ done_by options number did files old_records new_records old new takes =
 
 taken : (options : StageOptions) (number : ℕ) (did wanted : StepAction) (files : List ReplacedFile)
     (old_records new_records : KnownRecords) (old new : KnownFolder) → did ≡ wanted
-    → IsFree old_records number → IfSome old (IsFoundBy files)
+    → IsNewNumber old_records number → IfSome old (IsFoundBy files)
     → Takes options number did files old_records new_records old new
     → IsTaken options wanted files old_records new_records old new
-taken options number did wanted files old_records new_records old new is free found takes = record {
+taken options number did wanted files old_records new_records old new is next found takes = record {
   number = number;
-  free = free;
+  is_new = next;
   found = found;
   takes = subst (λ a. Takes options number a files old_records new_records old new) is takes;
 }
@@ -106,43 +106,44 @@ all_listed P (Some file) is = All-cons P file [] is (All-nil P)
 module _ (known : KnownFiles) (manifest appid : List ℕ) (options : StageOptions)
     (old_records new_records : KnownRecords) (old new : KnownFolder)
     (file : Option ReplacedFile) (number : ℕ) (owned : List ℕ) where
-  pub halted : owned ≡ appid → IsFree old_records number
+  pub halted : owned ≡ appid → IsNewNumber old_records number
       → PlansHalt known manifest appid options old file
       → Takes options number (Halt owned) (option_to_list file) old_records new_records old new
       → HasHalted known manifest appid options old_records new_records old new
-  halted own free plans takes = let plan = plans.plan in record {
+  halted own next plans takes = let plan = plans.plan in record {
     app = plans.app;
     is_app = plans.is_app;
     bytes = plan.bytes;
     halts = plan.halts;
     replaced = replaces old new _ _ file plan.by (done_by _ _ _ _ _ _ old new takes);
     files = option_to_list file;
-    taken = taken options number (Halt owned) (Halt appid) _ _ _ old new (ap (λ a. Halt a) own) free
+    taken = taken options number (Halt owned) (Halt appid) _ _ _ old new (ap (λ a. Halt a) own) next
         (found_file old _ _ file plan.by) takes;
   }
 
   pub halted_release : (version : List ℕ) (did : StepAction) → did ≡ HaltRelease appid version
-      → IsFree old_records number → PlansReleaseHalt known manifest appid version options old file
+      → IsNewNumber old_records number
+      → PlansReleaseHalt known manifest appid version options old file
       → Takes options number did (option_to_list file) old_records new_records old new
       → HasHaltedRelease known manifest appid version options old_records new_records old new
-  halted_release version did is free plans takes = let plan = plans.plan in record {
+  halted_release version did is next plans takes = let plan = plans.plan in record {
     app = plans.app;
     is_app = plans.is_app;
     text = plan.text;
     leaves_out = plan.leaves_out;
     replaced = replaces old new _ _ file plan.by (done_by _ _ _ _ _ _ old new takes);
     files = option_to_list file;
-    taken = taken options number did (HaltRelease appid version) _ _ _ old new is free
+    taken = taken options number did (HaltRelease appid version) _ _ _ old new is next
         (found_file old _ _ file plan.by) takes;
   }
 
-  pub raised : (buckets : ℕ) → owned ≡ appid → IsFree old_records number
+  pub raised : (buckets : ℕ) → owned ≡ appid → IsNewNumber old_records number
       → HasOnlySteps old_records → PlansRaise known manifest appid buckets options old file
       → IfSome file (IsAcceptedWith known manifest)
       → Takes options number (Raise owned buckets) (option_to_list file) old_records new_records
       old new
       → HasRaised known manifest appid buckets options old_records new_records old new
-  raised buckets own free read plans accepted takes = let plan = plans.plan in record {
+  raised buckets own next read plans accepted takes = let plan = plans.plan in record {
     read = read;
     app = plans.app;
     is_app = plans.is_app;
@@ -152,17 +153,17 @@ module _ (known : KnownFiles) (manifest appid : List ℕ) (options : StageOption
     files = option_to_list file;
     accepted = all_listed (IsAcceptedWith known manifest) file accepted;
     taken = taken options number (Raise owned buckets) (Raise appid buckets) _ _ _ old new
-        (ap (λ a. Raise a buckets) own) free (found_file old _ _ file plan.by) takes;
+        (ap (λ a. Raise a buckets) own) next (found_file old _ _ file plan.by) takes;
   }
 
   pub resumed : (buckets : Option ℕ) (recorded : RecordedSteps) → owned ≡ appid
-      → IsFree old_records number → AreAllRead old_records recorded
+      → IsNewNumber old_records number → AreAllRead old_records recorded
       → PlansResume known manifest appid buckets options old recorded.steps.items file
       → IfSome file (IsAcceptedWith known manifest)
       → Takes options number (Resume owned buckets) (option_to_list file) old_records new_records
       old new
       → HasResumed known manifest appid buckets options old_records new_records old new
-  resumed buckets recorded own free are plans accepted takes = let plan = plans.plan in record {
+  resumed buckets recorded own next are plans accepted takes = let plan = plans.plan in record {
     recorded = recorded;
     are = are;
     app = plans.app;
@@ -174,7 +175,7 @@ module _ (known : KnownFiles) (manifest appid : List ℕ) (options : StageOption
     files = option_to_list file;
     accepted = all_listed (IsAcceptedWith known manifest) file accepted;
     taken = taken options number (Resume owned buckets) (Resume appid buckets) _ _ _ old new
-        (ap (λ a. Resume a buckets) own) free (found_file old _ _ file plan.by) takes;
+        (ap (λ a. Resume a buckets) own) next (found_file old _ _ file plan.by) takes;
   }
 
 pub has_put : StepsLeave → (known : KnownFiles) (current manifest : List ℕ)
@@ -188,7 +189,7 @@ has_put laws known current manifest options old_records new_records old new plan
       are = is.are;
       files = plan.files.items;
       plan = is.files;
-      taken = taken options plan.number plan.action _ _ _ _ old new is.action_is is.number_is
+      taken = taken options plan.number plan.action _ _ _ _ old new is.action_is is.is_new
           (found_changes old _ _ _ is.files.changes) takes;
       in_place = in_place laws old new _ _ plan.files.items is.files.changes
           (done_by _ _ _ _ _ _ old new takes);

@@ -1,15 +1,16 @@
 -- What `put` knows of the manifest in place, and the step that it plans.
-use Rattle.std.specs.Prelude.{◌≡◌, ℕ, List, [], codes, find, Bool, Option, Some, None}
+use Rattle.std.specs.Prelude.{◌≡◌, ℕ, List, [], codes, find, Bool, Some, None}
 use Rattle.bounded_files.specs.Files.{KnownFiles}
 use Rattle.load.specs.Opened.{IsCollected}
 use Rattle.load.specs.declared.sources.AppSources.{AppSources}
-use Rattle.stage_folder.specs.Folders.{GivesFile, IsFree, KnownFolder, KnownRecords}
+use Rattle.stage_folder.specs.Folders.{GivesFile, KnownFolder, KnownRecords}
 use Rattle.stage_folder.specs.declared.records.RecordedSteps.{RecordedSteps}
 use Rattle.stage_folder.specs.Steps.{has_name, left_by}
 use Rattle.stage_records.specs.Steps.{ReplacedFile, StagingStep}
 use Rattle.stage_records.specs.declared.step.StepAction.TheVariants.{Put}
 use Rattle.stage_rules.specs.Lifting.{AreNamed}
 use Rattle.stage_commands.specs.Puts.{PlansPut}
+use Rattle.stage_commands.specs.Taken.{IsNewNumber}
 use Rattle.stage_servers.specs.Whole.{AreAllRead}
 use Rattle.stage_commands.specs.declared.put_files.Content.{Content}
 use Rattle.stage_commands.specs.declared.put_files.Content.TheVariants as content
@@ -48,6 +49,6 @@ pub record IsPutPlan (known : KnownFiles) (current manifest : List ℕ) (anyway 
     (records : KnownRecords) (folder : KnownFolder) (plan : PutPlan) : Type 0 where
   pub recorded : RecordedSteps
   pub are : AreAllRead records recorded
-  pub number_is : IsFree records plan.number
+  pub is_new : IsNewNumber records plan.number
   pub action_is : plan.action ≡ Put manifest
   pub files : PlansPut known current manifest folder recorded.steps.items anyway plan.files.items

@@ -1,7 +1,7 @@
 -- A step that is recorded and performed, and what a stop leaves.
 use Rattle.std.specs.Prelude.{◌≡◌, ◌⊎◌, ℕ, List, [], true, false, Some, IfSome, option_map}
 use Rattle.std.specs.Prelude.{option_copied}
-use Rattle.stage_folder.specs.Folders.{IsFree, KnownFolder, KnownRecords}
+use Rattle.stage_folder.specs.Folders.{FollowsRecord, IsFree, KnownFolder, KnownRecords}
 use Rattle.stage_folder.specs.Recorded.{IsRecorded, MayBeRecorded}
 use Rattle.stage_folder.specs.Steps.{IsFoundBy, IsPartlyDone, IsPartlyUndone, done}
 use Rattle.stage_folder.specs.Steps.{has_distinct_names, undone}
@@ -21,6 +21,12 @@ pub record IsLast (records : KnownRecords) (step : StagingStep) : Type 0 where
   pub recorded : RecordedSteps
   pub are : AreAllRead records recorded
   pub last : last_step recorded.steps.items ≡ Some step
+
+-- the number of a new step: no record has it, or a greater one; it is 1, or one more than that of a
+-- record
+pub record IsNewNumber (records : KnownRecords) (number : ℕ) : Type 0 where
+  pub free : IsFree records number
+  pub follows : FollowsRecord records (Some number)
 
 -- ---- a step
 
@@ -47,11 +53,11 @@ pub record Takes (options : StageOptions) (number : ℕ) (action : StepAction)
   pub not_undone : step.is_undone ≡ false
   pub performed : Performs step old_records new_records old new
 
--- no earlier record had its number, and it has the bytes that each file had before
+-- its number is new, and it has the bytes that each file had before
 pub record IsTaken (options : StageOptions) (action : StepAction) (files : List ReplacedFile)
     (old_records new_records : KnownRecords) (old new : KnownFolder) : Type 0 where
   pub number : ℕ
-  pub free : IsFree old_records number
+  pub is_new : IsNewNumber old_records number
   pub found : IfSome old (IsFoundBy files)
   pub takes : Takes options number action files old_records new_records old new
 
@@ -69,11 +75,10 @@ as_undone step = record {
 
 -- ---- a stop
 
--- no record has the step's number or a greater one, it isn't undone, and it has the bytes that each
--- file has
+-- the step's number is new, it isn't undone, and it has the bytes that each file has
 pub record IsNext (records : KnownRecords) (folder : KnownFolder) (step : StagingStep)
     : Type 0 where
-  pub free : IsFree records step.number
+  pub is_new : IsNewNumber records step.number
   pub not_undone : step.is_undone ≡ false
   pub found : IfSome folder (IsFoundBy step.files)
 

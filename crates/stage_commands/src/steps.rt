@@ -1,7 +1,7 @@
 //! The number of the next step, and what a step owns.
 
 ghost use Rattle.std.specs.Prelude.{◌≡◌, IfOk, option_copied};
-ghost use Rattle.stage_folder.specs.Folders.{IsFree};
+ghost use Rattle.stage_commands.specs.Taken.{IsNewNumber};
 
 use crate::stop_texts::NO_NUMBER;
 use attrs::Text;
@@ -31,8 +31,9 @@ pub(crate) fn owned_some(alloc: Global, text: Option<&str>) -> Result<Option<Tex
 }
 
 /// The number of the step that follows all recorded ones, of which none has to be readable.
+#[tactic(auto, using(crate::proofs::Left::new_number))]
 pub(crate) fn number_in<F: StageFolder>(alloc: Global, folder: &F) -> Result<u32, Stop>
-    ensures { IfOk result (IsFree (F.records folder.now)) }
+    ensures { IfOk result (IsNewNumber (F.records folder.now)) }
 {
     let next = match next_number(folder) {
         Ok(next) => next,

@@ -3,9 +3,8 @@
 ghost use Rattle.std.specs.Prelude.{◌≡◌, [], IfErr, IfOk, IfSome, OnErr, OnOk, false, option_map};
 ghost use Rattle.std.specs.Prelude.{option_copied, option_to_list, true};
 ghost use Rattle.stage_commands.specs.Actions.{IsUnchanged};
-ghost use Rattle.stage_commands.specs.Taken.{IsNext, LeftBy, MayChange, Performs, RecordLeftBy};
-ghost use Rattle.stage_commands.specs.Taken.{Takes};
-ghost use Rattle.stage_folder.specs.Folders.{IsFree};
+ghost use Rattle.stage_commands.specs.Taken.{IsNewNumber, IsNext, LeftBy, MayChange, Performs};
+ghost use Rattle.stage_commands.specs.Taken.{RecordLeftBy, Takes};
 ghost use Rattle.stage_folder.specs.Recorded.{IsRecorded};
 ghost use Rattle.stage_folder.specs.Steps.{IsFoundBy, IsPartlyDone, done};
 ghost use Rattle.stage_folder.specs.Steps.{has_distinct_names};
@@ -181,7 +180,7 @@ pub(crate) fn take_step<R, D, F>(
 where
     R: AllocGlobal + Clock,
     F: StageFolder,
-    requires free { IsFree (F.records folder.old) number }
+    requires is_new { IsNewNumber (F.records folder.old) number }
     requires found { IfSome (F.files folder.old) (IsFoundBy files.items) }
     ensures done { OnOk result (call.now.options.now.dry_run ≡ false → Takes
         call.now.options.now number action files.items (F.records folder.old)
@@ -216,7 +215,7 @@ pub(crate) fn take_file<R, D, F>(
 where
     R: AllocGlobal + Clock,
     F: StageFolder,
-    requires free { IsFree (F.records folder.old) number }
+    requires is_new { IsNewNumber (F.records folder.old) number }
     requires found { IfSome (F.files folder.old) (IsFoundBy (option_to_list file)) }
     ensures done { OnOk result (call.now.options.now.dry_run ≡ false → Takes
         call.now.options.now number action (option_to_list file) (F.records folder.old)

@@ -9,8 +9,8 @@ returns-in-Ok-take_step-clause-done g c = λ wet.
     _ _ _ _ _ _ _ _ _ (rw c.in-Ok.field-0-is at c.in-Ok.ensures)
     (c.in-Ok-take_step.ensures.done wet)
 
-pub take_step-requires-clause-free : goal.take_step-requires-clause-free
-take_step-requires-clause-free g c = (rw c.in-Ok.field-0-is at c.in-Ok.ensures).number_is
+pub take_step-requires-clause-is_new : goal.take_step-requires-clause-is_new
+take_step-requires-clause-is_new g c = (rw c.in-Ok.field-0-is at c.in-Ok.ensures).is_new
 
 pub take_step-requires-clause-found : goal.take_step-requires-clause-found
 take_step-requires-clause-found g c =
