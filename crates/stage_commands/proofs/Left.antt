@@ -4,6 +4,8 @@ use Rattle.std.proofs.Common.{false, zero, suc, inl, inr}
 use Rattle.std.specs.Prelude.{Some, None, Result, Ok, Err, IfErr, IfOk, OnOk, IfSome, option_map}
 use Rattle.std.specs.Prelude.{option_copied}
 use Rattle.stage_records.specs.Steps.{ReplacedFile, StagingStep, last_step}
+use Rattle.stage_records.specs.declared.action.StageAction.{StageAction}
+use Rattle.stage_records.specs.declared.action.StageAction.TheVariants as action
 use Rattle.stage_records.specs.declared.step.StepAction.{StepAction}
 use Rattle.stage_folder.specs.Folders.{FollowsRecord, IsFree, KnownFolder, KnownRecords}
 use Rattle.stage_folder.specs.Recorded.{AreRecordsAfter, IsRecorded, MayBeRecorded}
@@ -12,12 +14,13 @@ use Rattle.stage_folder.specs.Steps.{has_distinct_names, undone}
 use Rattle.stage_folder.specs.declared.folder_fault.RecordFault.{RecordFault}
 use Rattle.stage_folder.specs.declared.folder_fault.RecordFault.TheVariants as fault
 use Rattle.stage_folder.specs.declared.records.RecordedSteps.{RecordedSteps}
+use Rattle.stage_commands.specs.Actions.{LeftByAction}
 use Rattle.stage_commands.specs.Backs.{Undoes}
 use Rattle.stage_commands.specs.Taken.{AddAtMostOne, IsLast, IsLeft, IsLeftUndone, IsNewNumber}
-use Rattle.stage_commands.specs.Taken.{IsNext, IsTrueAfter, LeftBy, LeftByUndo, MayChange}
-use Rattle.stage_commands.specs.Taken.{RecordLeftBy, as_undone}
+use Rattle.stage_commands.specs.Taken.{IsNext, IsTrueAfter, LeftBy, LeftByBack, LeftByUndo}
+use Rattle.stage_commands.specs.Taken.{MayChange, RecordLeftBy, as_undone}
 use Rattle.stage_servers.specs.Whole.{AreAllRead}
-use Rattle.stage_commands.specs.Taken.{Performs, Takes, unchanged, partly_done, partly_undone}
+use Rattle.stage_commands.specs.Taken.{Performs, Takes, unchanged, partly_done}
 use Rattle.stage_servers.specs.declared.options.StageOptions.{StageOptions}
 use Rattle.stage_servers.specs.declared.outcome.Stop.{Stop}
 use Rattle.stage_servers.specs.declared.outcome.Stop.TheVariants as stop
@@ -33,12 +36,6 @@ pub unchanged_by : (why : Stop) (old_records new_records : KnownRecords) (old ne
 unchanged_by (stop.Refused reason) old_records new_records old new same e = (same, e)
 unchanged_by (stop.Failed reason) old_records new_records old new same e = unchanged (inl same) e
 unchanged_by stop.Memory old_records new_records old new same e = unchanged (inl same) e
-
-pub left_by : (why : Stop) (old_records new_records : KnownRecords) (old new : KnownFolder)
-    → LeftBy why old_records new_records old new → IsLeft old_records new_records old new
-left_by (stop.Refused reason) old_records new_records old new left = unchanged (inl left.0) left.1
-left_by (stop.Failed reason) old_records new_records old new left = left
-left_by stop.Memory old_records new_records old new left = left
 
 -- ---- a step
 
@@ -224,20 +221,46 @@ undoes step old_records mid_records new_records old mid new all same noted e = r
   recorded = subst (λ r. IsRecorded (as_undone step) r new_records) same noted;
 }
 
+pub unchanged_back : (why : Stop) (old_records new_records : KnownRecords)
+    (old new : KnownFolder) → new_records ≡ old_records → new ≡ old
+    → LeftByBack why old_records new_records old new
+unchanged_back (stop.Refused reason) old_records new_records old new same e = (same, e)
+unchanged_back (stop.Failed reason) old_records new_records old new same e = inl (same, e)
+unchanged_back stop.Memory old_records new_records old new same e = inl (same, e)
+
 pub left_undone : (why : Stop) (step : StagingStep) (old_records new_records : KnownRecords)
     (old new : KnownFolder) → IsLast old_records step
     → LeftByUndo why step old_records new_records old new
-    → LeftBy why old_records new_records old new
+    → LeftByBack why old_records new_records old new
 left_undone (stop.Refused reason) step old_records new_records old new last left = left
 left_undone (stop.Failed reason) step old_records new_records old new last left =
-    partly_undone step last left
-left_undone stop.Memory step old_records new_records old new last left =
-    partly_undone step last left
+    inr (step, last, left)
+left_undone stop.Memory step old_records new_records old new last left = inr (step, last, left)
 
 pub last_of : (records : KnownRecords) (recorded : RecordedSteps) (step : StagingStep)
     → AreAllRead records recorded → last_step recorded.steps.items ≡ Some step
     → IsLast records step
 last_of records recorded step are is = record { recorded = recorded; are = are; last = is }
+
+-- ---- any action
+
+pub unchanged_action : (did : StageAction) (why : Stop) (old_records new_records : KnownRecords)
+    (old new : KnownFolder) → new_records ≡ old_records → new ≡ old
+    → LeftByAction did why old_records new_records old new
+unchanged_action action.Back why old_records new_records old new same e =
+    unchanged_back why old_records new_records old new same e
+unchanged_action action.Status why old_records new_records old new same e = (e, same)
+unchanged_action (action.History appid) why old_records new_records old new same e = (e, same)
+unchanged_action (action.Halt appid) why old_records new_records old new same e =
+    unchanged_by why old_records new_records old new same e
+unchanged_action (action.HaltRelease appid version) why old_records new_records old new same e =
+    unchanged_by why old_records new_records old new same e
+unchanged_action (action.Raise appid buckets) why old_records new_records old new same e =
+    unchanged_by why old_records new_records old new same e
+unchanged_action (action.Put next) why old_records new_records old new same e =
+    unchanged_by why old_records new_records old new same e
+unchanged_action (action.Resume appid buckets) why old_records new_records old new same e =
+    unchanged_by why old_records new_records old new same e
 
 -- ---- results
 

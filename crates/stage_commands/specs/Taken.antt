@@ -93,24 +93,13 @@ abbrev pub AddAtMostOne : (old_records new_records : KnownRecords) → (old : Kn
 AddAtMostOne old_records new_records old = (new_records ≡ old_records)
     ⊎ ((step : StagingStep) × IsAdded step old_records new_records old)
 
--- some files of a step are restored; or all are, and its record says that it is undone
-abbrev pub IsLeftUndone : StagingStep → (old_records new_records : KnownRecords)
-    → (old new : KnownFolder) → Type 0
-IsLeftUndone step old_records new_records old new =
-    ((new_records ≡ old_records) × IsPartlyUndone step.files old new)
-    ⊎ (IsRecorded (as_undone step) old_records new_records
-    × (new ≡ option_map (undone step.files) old))
-
--- no file has changed, but a step may be added; or a step is added, and its files are replaced; or
--- those of the last step that isn't undone are restored; each in part or all
+-- no file has changed, but a step may be added; or a step is added, and its files are replaced, in
+-- part or all
 pub data IsLeft (old_records new_records : KnownRecords) (old new : KnownFolder) : Type 0 where
   unchanged : AddAtMostOne old_records new_records old → new ≡ old
       → IsLeft old_records new_records old new
   partly_done : (step : StagingStep) → IsAdded step old_records new_records old
       → has_distinct_names step.files ≡ true → IsPartlyDone step.files old new
-      → IsLeft old_records new_records old new
-  partly_undone : (step : StagingStep) → IsLast old_records step
-      → IsLeftUndone step old_records new_records old new
       → IsLeft old_records new_records old new
 
 -- what says that nothing has changed leaves all records and files as before
@@ -125,13 +114,37 @@ abbrev pub MayChange : Stop → Type 0
 MayChange (stop.Refused reason) = ⊥
 MayChange other = Unit {0}
 
--- the same of a step that is to be undone
+-- ---- a stop of `back`
+
+-- some files of a step are restored; or all are, and its record says that it is undone
+abbrev pub IsLeftUndone : StagingStep → (old_records new_records : KnownRecords)
+    → (old new : KnownFolder) → Type 0
+IsLeftUndone step old_records new_records old new =
+    ((new_records ≡ old_records) × IsPartlyUndone step.files old new)
+    ⊎ (IsRecorded (as_undone step) old_records new_records
+    × (new ≡ option_map (undone step.files) old))
+
+-- the same of a stop while a step is undone
 abbrev pub LeftByUndo : Stop → StagingStep → (old_records new_records : KnownRecords)
     → (old new : KnownFolder) → Type 0
 LeftByUndo (stop.Refused reason) step old_records new_records old new =
     (new_records ≡ old_records) × (new ≡ old)
 LeftByUndo other step old_records new_records old new =
     IsLeftUndone step old_records new_records old new
+
+-- nothing has changed; or files of the last step that isn't undone are restored
+abbrev pub IsLeftByBack : (old_records new_records : KnownRecords) → (old new : KnownFolder)
+    → Type 0
+IsLeftByBack old_records new_records old new = ((new_records ≡ old_records) × (new ≡ old))
+    ⊎ ((step : StagingStep) × IsLast old_records step
+    × IsLeftUndone step old_records new_records old new)
+
+-- the same of a stop of `back`
+abbrev pub LeftByBack : Stop → (old_records new_records : KnownRecords) → (old new : KnownFolder)
+    → Type 0
+LeftByBack (stop.Refused reason) old_records new_records old new =
+    (new_records ≡ old_records) × (new ≡ old)
+LeftByBack other old_records new_records old new = IsLeftByBack old_records new_records old new
 
 -- ---- a record that can't be written
 

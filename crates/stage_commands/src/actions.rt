@@ -2,8 +2,8 @@
 
 ghost use Rattle.std.specs.Prelude.{◌≡◌, IfErr, IfOk, OnOk, false, true};
 ghost use Rattle.stage_commands.specs.Actions.{HasNoEdits, IsStaged, IsStagedOrLeft, IsUnchanged};
+ghost use Rattle.stage_commands.specs.Actions.{LeftByAction};
 ghost use Rattle.stage_commands.specs.Planned.{IsPlanned};
-ghost use Rattle.stage_commands.specs.Taken.{LeftBy};
 ghost use Rattle.stage_servers.specs.Whole as specs;
 ghost use Rattle.stage_servers.specs.Whole.{IsSeenWhole};
 
@@ -63,7 +63,7 @@ where
 
 // Prints the status or the history; or changes the files, and has the servers load the manifest.
 // Returns whether all is done.
-#[tactic(auto, using(crate::proofs::Left::unchanged_by, crate::proofs::Seen::unseen))]
+#[tactic(auto, using(crate::proofs::Left::unchanged_action, crate::proofs::Seen::unseen))]
 fn act<R, D, F>(
     call: &StageCall<'_, R, D>,
     folder: &mut F,
@@ -84,8 +84,9 @@ where
         (F.records folder.old) (F.files folder.old)) }
     ensures unedited { OnOk result (HasNoEdits call.now.options.now action.now
         (F.records folder.old) (F.files folder.old)) }
-    ensures stopped { IfErr result (λ stop. LeftBy stop (F.records folder.old)
-        (F.records folder.new) (F.files folder.old) (F.files folder.new)) }
+    ensures stopped { IfErr result (λ stop. LeftByAction action.now stop
+        (F.records folder.old) (F.records folder.new) (F.files folder.old)
+        (F.files folder.new)) }
     ensures looked { specs.only_looks action.now ≡ true → IsUnchanged (F.records folder.old)
         (F.records folder.new) (F.files folder.old) (F.files folder.new) }
     ensures unchanged { call.now.options.now.dry_run ≡ true → IsUnchanged (F.records folder.old)
@@ -104,7 +105,6 @@ where
 }
 
 /// The same as `stage_in`, after these lines.
-#[tactic(auto, using(crate::proofs::Left::left_by))]
 pub(crate) fn stage_on<R, D, F>(
     rt: &R,
     disk: &D,

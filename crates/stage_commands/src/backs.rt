@@ -3,7 +3,7 @@
 ghost use Rattle.std.specs.Prelude.{◌≡◌, IfErr, IfSome, OnOk, false, true};
 ghost use Rattle.stage_commands.specs.Actions.{IsUnchanged};
 ghost use Rattle.stage_commands.specs.Backs.{HasGoneBack, PlansBack, UndoingLiftsNone};
-ghost use Rattle.stage_commands.specs.Taken.{LeftBy};
+ghost use Rattle.stage_commands.specs.Taken.{LeftByBack};
 ghost use Rattle.stage_records.specs.Steps.{last_step};
 
 use crate::restored::compare_restored;
@@ -76,7 +76,7 @@ where
 
 /// Compares what changes, and then undoes the last step that isn't undone, even one that stopped in
 /// its middle.
-#[tactic(auto, using(crate::proofs::Left::unchanged_by))]
+#[tactic(auto, using(crate::proofs::Left::unchanged_back))]
 pub(crate) fn go_back<R, D, F>(
     call: &StageCall<'_, R, D>,
     folder: &mut F,
@@ -92,7 +92,7 @@ where
         (D.known call.now.disk.now) call.now.manifest.now call.now.options.now.anyway
         (F.records folder.old) (F.records folder.new) (F.files folder.old)
         (F.files folder.new)) }
-    ensures stopped { IfErr result (λ stop. LeftBy stop (F.records folder.old)
+    ensures stopped { IfErr result (λ stop. LeftByBack stop (F.records folder.old)
         (F.records folder.new) (F.files folder.old) (F.files folder.new)) }
     ensures unchanged { call.now.options.now.dry_run ≡ true → IsUnchanged (F.records folder.old)
         (F.records folder.new) (F.files folder.old) (F.files folder.new) }

@@ -1,9 +1,8 @@
 //! An action that changes files: what is found before, the change, and the servers' loads.
 
 ghost use Rattle.std.specs.Prelude.{◌≡◌, IfErr, OnOk, false, true};
-ghost use Rattle.stage_commands.specs.Actions.{HasNoEdits, IsStaged, IsUnchanged};
+ghost use Rattle.stage_commands.specs.Actions.{HasNoEdits, IsStaged, IsUnchanged, LeftByAction};
 ghost use Rattle.stage_commands.specs.Planned.{IsPlanned};
-ghost use Rattle.stage_commands.specs.Taken.{LeftBy};
 
 use crate::app_halts::halt;
 use crate::backs::go_back;
@@ -23,7 +22,7 @@ use std::rt::Files;
 use std::time::Clock;
 
 // Changes the files as the action says. A status and a history change nothing.
-#[tactic(auto, using(crate::proofs::Left::unchanged_by))]
+#[tactic(auto, using(crate::proofs::Left::unchanged_action))]
 fn change_files<R, D, F>(
     call: &StageCall<'_, R, D>,
     folder: &mut F,
@@ -40,8 +39,9 @@ where
         → IsStaged (D.known call.now.disk.now) call.now.manifest.now call.now.options.now
         action.now (F.records folder.old) (F.records folder.new) (F.files folder.old)
         (F.files folder.new)) }
-    ensures stopped { IfErr result (λ stop. LeftBy stop (F.records folder.old)
-        (F.records folder.new) (F.files folder.old) (F.files folder.new)) }
+    ensures stopped { IfErr result (λ stop. LeftByAction action.now stop
+        (F.records folder.old) (F.records folder.new) (F.files folder.old)
+        (F.files folder.new)) }
     ensures unchanged { call.now.options.now.dry_run ≡ true → IsUnchanged (F.records folder.old)
         (F.records folder.new) (F.files folder.old) (F.files folder.new) }
 {
@@ -102,7 +102,7 @@ where
 }
 
 /// Changes the files, and has the servers load the manifest. Returns whether all is done.
-#[tactic(auto, using(crate::proofs::Left::unchanged_by))]
+#[tactic(auto, using(crate::proofs::Left::unchanged_action))]
 pub(crate) fn change_and_load<R, D, F>(
     call: &StageCall<'_, R, D>,
     folder: &mut F,
@@ -121,8 +121,9 @@ where
         (F.files folder.new)) }
     ensures unedited { OnOk result (HasNoEdits call.now.options.now action.now
         (F.records folder.old) (F.files folder.old)) }
-    ensures stopped { IfErr result (λ stop. LeftBy stop (F.records folder.old)
-        (F.records folder.new) (F.files folder.old) (F.files folder.new)) }
+    ensures stopped { IfErr result (λ stop. LeftByAction action.now stop
+        (F.records folder.old) (F.records folder.new) (F.files folder.old)
+        (F.files folder.new)) }
     ensures unchanged { call.now.options.now.dry_run ≡ true → IsUnchanged (F.records folder.old)
         (F.records folder.new) (F.files folder.old) (F.files folder.new) }
 {

@@ -1,10 +1,10 @@
 use Rattle.std.proofs.Common.{inr}
-use Rattle.stage_commands.proofs.Left.{if_ok_of, left_by}
+use Rattle.stage_commands.proofs.Left.{if_ok_of}
 use Rattle.stage_commands.proofs.actions.stage_on.Goals as goal
 
 pub returns-in-Err-clause-left : goal.returns-in-Err-clause-left
 returns-in-Err-clause-left g c = λ wet.
-    inr (left_by c.in-Err.stop _ _ _ _ c.in-Err.ensures.stopped)
+    inr (c.in-Err.stop, c.in-Err.ensures.stopped)
 
 pub returns-in-Ok-clause-unedited : goal.returns-in-Ok-clause-unedited
 returns-in-Ok-clause-unedited g c =

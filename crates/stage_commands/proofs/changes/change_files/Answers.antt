@@ -49,3 +49,21 @@ returns-in-Status-clause-planned g c = rw c.in-Status.is tt
 
 pub returns-in-History-clause-planned : goal.returns-in-History-clause-planned
 returns-in-History-clause-planned g c = rw c.in-History.is tt
+
+pub returns-in-Halt-clause-stopped : goal.returns-in-Halt-clause-stopped
+returns-in-Halt-clause-stopped g c = rw c.in-Halt.is c.halt.ensures.stopped
+
+pub returns-in-HaltRelease-clause-stopped : goal.returns-in-HaltRelease-clause-stopped
+returns-in-HaltRelease-clause-stopped g c = rw c.in-HaltRelease.is c.halt_release.ensures.stopped
+
+pub returns-in-Raise-clause-stopped : goal.returns-in-Raise-clause-stopped
+returns-in-Raise-clause-stopped g c = rw c.in-Raise.is c.raise.ensures.stopped
+
+pub returns-in-Back-clause-stopped : goal.returns-in-Back-clause-stopped
+returns-in-Back-clause-stopped g c = rw c.in-Back.is c.go_back.ensures.stopped
+
+pub returns-in-Put-clause-stopped : goal.returns-in-Put-clause-stopped
+returns-in-Put-clause-stopped g c = rw c.in-Put.is c.put.ensures.stopped
+
+pub returns-in-Resume-clause-stopped : goal.returns-in-Resume-clause-stopped
+returns-in-Resume-clause-stopped g c = rw c.in-Resume.is c.resume.ensures.stopped
