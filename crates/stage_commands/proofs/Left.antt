@@ -1,5 +1,5 @@
 -- What a stop leaves, from what each part leaves.
-use Rattle.std.proofs.Common.{◌≡◌, ◌∙◌, ap, refl, subst, sym, ℕ, List, [], ◌∷◌, true}
+use Rattle.std.proofs.Common.{◌≡◌, ◌≢◌, ◌∙◌, ap, refl, subst, sym, ℕ, List, [], ◌∷◌, true}
 use Rattle.std.proofs.Common.{false, zero, suc, inl, inr}
 use Rattle.std.specs.Prelude.{Some, None, Result, Ok, Err, IfErr, IfOk, OnOk, IfSome, option_map}
 use Rattle.std.specs.Prelude.{option_copied}
@@ -117,12 +117,13 @@ module _ (step : StagingStep) (old_records mid new_records : KnownRecords)
   partly_done_by stop.Memory may = left_partly
 
 pub performs : (step : StagingStep) (old_records mid new_records : KnownRecords)
-    (old between new : KnownFolder) → IsRecorded step old_records mid → new_records ≡ mid
+    (old between new : KnownFolder) → step.files ≢ []
+    → IsRecorded step old_records mid → new_records ≡ mid
     → has_distinct_names step.files ≡ true → between ≡ old
     → new ≡ option_map (done step.files) between
     → Performs step old_records new_records old new
-performs step old_records mid new_records old between new is same distinct e all = record {
-  recorded = inr (subst (IsRecorded step old_records) (sym same) is);
+performs step old_records mid new_records old between new some is same distinct e all = record {
+  recorded = inr (some, subst (IsRecorded step old_records) (sym same) is);
   distinct = distinct;
   done = all ∙ ap (option_map (done step.files)) e;
 }

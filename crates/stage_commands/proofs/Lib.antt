@@ -1,4 +1,5 @@
 mod Accepted
+mod Changing
 mod Opening
 mod Plans
 mod Left

@@ -1,11 +1,11 @@
 -- A step of one file, or of none, replaces that file.
 use Rattle.std.proofs.Common.{◌≡◌, ℕ, List, [], ◌∷◌, Option, Some, None, inl, inr, refl, ap, ◌∙◌}
 use Rattle.std.proofs.Common.{subst, sym}
-use Rattle.std.specs.Prelude.{All, Bool, IfSome, option_map, option_to_list, false}
+use Rattle.std.specs.Prelude.{All, Bool, IfSome, option_map, option_to_list, false, true}
 use Rattle.std.proofs.lemmas.List.Elements.{All-cons, All-nil}
 use Rattle.bounded_files.specs.Files.{KnownFiles}
 use Rattle.stage_folder.specs.Folders.{KnownFolder, KnownRecords, put, put_known}
-use Rattle.stage_folder.specs.Steps.{IsFoundBy, done, edited_place}
+use Rattle.stage_folder.specs.Steps.{IsFoundBy, done, edited_place, is_change}
 use Rattle.stage_folder.specs.declared.records.RecordedSteps.{RecordedSteps}
 use Rattle.stage_records.specs.Steps.{ReplacedFile, StagingStep, last_step}
 use Rattle.stage_records.specs.declared.step.StepAction.{StepAction}
@@ -23,6 +23,7 @@ use Rattle.stage_commands.specs.Stages.{HasHalted, HasRaised, PlansHalt, PlansRa
 use Rattle.stage_commands.specs.Taken.{IsNewNumber, IsTaken, Takes}
 use Rattle.stage_servers.specs.Whole.{AreAllRead, HasOnlySteps}
 use Rattle.stage_commands.specs.declared.puts.PutPlan.{PutPlan}
+use Rattle.stage_commands.proofs.Changing.{changes_all, changes_file}
 use Rattle.stage_commands.proofs.Put.{StepsLeave, found_changes, in_place}
 
 same : (old : KnownFolder) → option_map (done []) old ≡ old
@@ -48,7 +49,7 @@ found_file : (old : KnownFolder) (name bytes : List ℕ) (file : Option Replaced
 found_file None name bytes file by = tt
 found_file (Some folder) name bytes None by = All-nil (λ f. folder f.name ≡ f.before)
 found_file (Some folder) name bytes (Some file) by =
-    All-cons (λ f. folder f.name ≡ f.before) file [] (ap folder by.0 ∙ by.2)
+    All-cons (λ f. folder f.name ≡ f.before) file [] (ap folder by.0 ∙ by.3)
     (All-nil (λ f. folder f.name ≡ f.before))
 
 pub halt_found : (known : KnownFiles) (manifest appid : List ℕ) (options : StageOptions)
@@ -89,14 +90,17 @@ done_by options number did files old_records new_records old new takes =
 taken : (options : StageOptions) (number : ℕ) (did wanted : StepAction) (files : List ReplacedFile)
     (old_records new_records : KnownRecords) (old new : KnownFolder) → did ≡ wanted
     → IsNewNumber old_records number → IfSome old (IsFoundBy files)
+    → All (λ file. is_change file ≡ true) files
     → Takes options number did files old_records new_records old new
     → IsTaken options wanted files old_records new_records old new
-taken options number did wanted files old_records new_records old new is next found takes = record {
-  number = number;
-  is_new = next;
-  found = found;
-  takes = subst (λ a. Takes options number a files old_records new_records old new) is takes;
-}
+taken options number did wanted files old_records new_records old new is next found changes takes =
+    record {
+      number = number;
+      is_new = next;
+      found = found;
+      changes = changes;
+      takes = subst (λ a. Takes options number a files old_records new_records old new) is takes;
+    }
 
 all_listed : (P : ReplacedFile → Type 0) (file : Option ReplacedFile) → IfSome file P
     → All P (option_to_list file)
@@ -118,7 +122,7 @@ module _ (known : KnownFiles) (manifest appid : List ℕ) (options : StageOption
     replaced = replaces old new _ _ file plan.by (done_by _ _ _ _ _ _ old new takes);
     files = option_to_list file;
     taken = taken options number (Halt owned) (Halt appid) _ _ _ old new (ap (λ a. Halt a) own) next
-        (found_file old _ _ file plan.by) takes;
+        (found_file old _ _ file plan.by) (changes_file old _ _ file plan.by) takes;
   }
 
   pub halted_release : (version : List ℕ) (did : StepAction) → did ≡ HaltRelease appid version
@@ -134,7 +138,7 @@ module _ (known : KnownFiles) (manifest appid : List ℕ) (options : StageOption
     replaced = replaces old new _ _ file plan.by (done_by _ _ _ _ _ _ old new takes);
     files = option_to_list file;
     taken = taken options number did (HaltRelease appid version) _ _ _ old new is next
-        (found_file old _ _ file plan.by) takes;
+        (found_file old _ _ file plan.by) (changes_file old _ _ file plan.by) takes;
   }
 
   pub raised : (buckets : ℕ) → owned ≡ appid → IsNewNumber old_records number
@@ -153,7 +157,8 @@ module _ (known : KnownFiles) (manifest appid : List ℕ) (options : StageOption
     files = option_to_list file;
     accepted = all_listed (IsAcceptedWith known manifest) file accepted;
     taken = taken options number (Raise owned buckets) (Raise appid buckets) _ _ _ old new
-        (ap (λ a. Raise a buckets) own) next (found_file old _ _ file plan.by) takes;
+        (ap (λ a. Raise a buckets) own) next (found_file old _ _ file plan.by)
+        (changes_file old _ _ file plan.by) takes;
   }
 
   pub resumed : (buckets : Option ℕ) (recorded : RecordedSteps) → owned ≡ appid
@@ -175,7 +180,8 @@ module _ (known : KnownFiles) (manifest appid : List ℕ) (options : StageOption
     files = option_to_list file;
     accepted = all_listed (IsAcceptedWith known manifest) file accepted;
     taken = taken options number (Resume owned buckets) (Resume appid buckets) _ _ _ old new
-        (ap (λ a. Resume a buckets) own) next (found_file old _ _ file plan.by) takes;
+        (ap (λ a. Resume a buckets) own) next (found_file old _ _ file plan.by)
+        (changes_file old _ _ file plan.by) takes;
   }
 
 pub has_put : StepsLeave → (known : KnownFiles) (current manifest : List ℕ)
@@ -190,7 +196,8 @@ has_put laws known current manifest options old_records new_records old new plan
       files = plan.files.items;
       plan = is.files;
       taken = taken options plan.number plan.action _ _ _ _ old new is.action_is is.is_new
-          (found_changes old _ _ _ is.files.changes) takes;
+          (found_changes old _ _ _ is.files.changes)
+          (changes_all is.files.changes.all _ is.files.changes.changes) takes;
       in_place = in_place laws old new _ _ plan.files.items is.files.changes
           (done_by _ _ _ _ _ _ old new takes);
     }

@@ -1,5 +1,5 @@
 -- An app of the manifest in place, and a file that is replaced.
-use Rattle.std.specs.Prelude.{◌≡◌, ◌⊎◌, ℕ, List, Option, Some, None, Bool, false, not, ◌&&◌}
+use Rattle.std.specs.Prelude.{◌≡◌, ◌⊎◌, ℕ, List, Option, Some, None, Bool, true, false, not, ◌&&◌}
 use Rattle.std.specs.List.{list_any}
 use Rattle.std.specs.Str.{bytes_eq}
 use Rattle.bounded_files.specs.Files.{KnownFiles}
@@ -8,6 +8,7 @@ use Rattle.load.specs.declared.opened.CollectedManifest.{CollectedManifest}
 use Rattle.load.specs.declared.sources.AppSources.{AppSources}
 use Rattle.manifest.specs.App.{file_of}
 use Rattle.stage_folder.specs.Folders.{GivesFile, KnownFolder, put_known}
+use Rattle.stage_folder.specs.Steps.{is_change}
 use Rattle.stage_records.specs.Steps.{ReplacedFile}
 use Rattle.stage_servers.specs.Apps.{app_named}
 
@@ -31,11 +32,12 @@ pub record IsAppOf (known : KnownFiles) (path appid : List ℕ) (anyway : Bool) 
 
 -- ---- one file
 
--- what replaces a file by these bytes; nothing only if it has them already
+-- what replaces a file by these bytes, if it has others; nothing only if it has them already
 abbrev pub ReplacesBy : KnownFolder → (name bytes : List ℕ) → Option ReplacedFile → Type 0
 ReplacesBy known name bytes None = GivesFile known name (Some bytes)
 ReplacesBy known name bytes (Some file) =
-    (file.name ≡ name) × (file.after ≡ bytes) × GivesFile known name file.before
+    (file.name ≡ name) × (file.after ≡ bytes) × (is_change file ≡ true)
+    × GivesFile known name file.before
 
 -- the file of this name is replaced by these bytes, and no other file changes; or it has them
 -- already, and nothing changes

@@ -1,10 +1,10 @@
 -- A step that is recorded and performed, and what a stop leaves.
-use Rattle.std.specs.Prelude.{◌≡◌, ◌⊎◌, ℕ, List, [], true, false, Some, IfSome, option_map}
-use Rattle.std.specs.Prelude.{option_copied}
+use Rattle.std.specs.Prelude.{◌≡◌, ◌≢◌, ◌⊎◌, ℕ, List, [], All, true, false, Some, IfSome}
+use Rattle.std.specs.Prelude.{option_copied, option_map}
 use Rattle.stage_folder.specs.Folders.{FollowsRecord, IsFree, KnownFolder, KnownRecords}
 use Rattle.stage_folder.specs.Recorded.{IsRecorded, MayBeRecorded}
 use Rattle.stage_folder.specs.Steps.{IsFoundBy, IsPartlyDone, IsPartlyUndone, done}
-use Rattle.stage_folder.specs.Steps.{has_distinct_names, undone}
+use Rattle.stage_folder.specs.Steps.{has_distinct_names, is_change, undone}
 use Rattle.stage_folder.specs.declared.folder_fault.RecordFault.{RecordFault}
 use Rattle.stage_folder.specs.declared.folder_fault.RecordFault.TheVariants as fault
 use Rattle.stage_folder.specs.declared.records.RecordedSteps.{RecordedSteps}
@@ -30,12 +30,12 @@ pub record IsNewNumber (records : KnownRecords) (number : ℕ) : Type 0 where
 
 -- ---- a step
 
--- a step that replaces files is recorded, and performed; one that replaces none changes no
--- file, and may be recorded
+-- a step that replaces files is recorded, and performed; one that replaces none isn't recorded, and
+-- changes no file
 pub record Performs (step : StagingStep) (old_records new_records : KnownRecords)
     (old new : KnownFolder) : Type 0 where
   pub recorded : ((step.files ≡ []) × (new_records ≡ old_records))
-      ⊎ IsRecorded step old_records new_records
+      ⊎ ((step.files ≢ []) × IsRecorded step old_records new_records)
   pub distinct : has_distinct_names step.files ≡ true
   pub done : new ≡ option_map (done step.files) old
 
@@ -53,12 +53,13 @@ pub record Takes (options : StageOptions) (number : ℕ) (action : StepAction)
   pub not_undone : step.is_undone ≡ false
   pub performed : Performs step old_records new_records old new
 
--- its number is new, and it has the bytes that each file had before
+-- its number is new, it has the bytes that each file had before, and it changes the bytes of each
 pub record IsTaken (options : StageOptions) (action : StepAction) (files : List ReplacedFile)
     (old_records new_records : KnownRecords) (old new : KnownFolder) : Type 0 where
   pub number : ℕ
   pub is_new : IsNewNumber old_records number
   pub found : IfSome old (IsFoundBy files)
+  pub changes : All (λ file. is_change file ≡ true) files
   pub takes : Takes options number action files old_records new_records old new
 
 -- a step as it is recorded once it is undone

@@ -1,11 +1,12 @@
 //! The app whose file is to be replaced, and what replaces that.
 
 ghost use Rattle.std.specs.Prelude.{◌≡◌, IfOk, None, Some, false, not, option_copied, option_map};
-ghost use Rattle.std.specs.Prelude.{option_to_list, true};
+ghost use Rattle.std.specs.Prelude.{option_to_list};
 ghost use Rattle.std.specs.Str.{bytes_eq};
 ghost use Rattle.stage_commands.specs.Apps as specs;
 ghost use Rattle.stage_servers.specs.Apps.{app_named};
 ghost use Rattle.stage_folder.specs.Folders.{GivesFile, KnownFolder};
+ghost use Rattle.stage_records.specs.FileStates.{is_same_file};
 
 use crate::stop_texts::{no_app, one_file};
 use load::AppSources;
@@ -132,7 +133,7 @@ where
 }
 
 fn has_bytes(before: &Option<Vec<u8>>, bytes: &[u8]) -> bool
-    ensures { result ≡ true → option_map (λ b. b.items) before.now ≡ Some bytes.now }
+    ensures { result ≡ is_same_file (option_map (λ b. b.items) before.now) (Some bytes.now) }
 {
     match before {
         Some(before) => before.as_slice() == bytes,
@@ -141,6 +142,7 @@ fn has_bytes(before: &Option<Vec<u8>>, bytes: &[u8]) -> bool
 }
 
 /// What replaces a file that had these bytes, if there was one; nothing if it has the new ones.
+#[tactic(auto, using(crate::proofs::Changing::has_them, crate::proofs::Changing::gets_others))]
 pub(crate) fn replacement(
     alloc: Global,
     name: &str,

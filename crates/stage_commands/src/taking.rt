@@ -1,7 +1,7 @@
 //! Recording a step, and performing it.
 
-ghost use Rattle.std.specs.Prelude.{◌≡◌, [], IfErr, IfOk, IfSome, OnErr, OnOk, false, option_map};
-ghost use Rattle.std.specs.Prelude.{option_copied, option_to_list, true};
+ghost use Rattle.std.specs.Prelude.{◌≡◌, ◌≢◌, [], IfErr, IfOk, IfSome, OnErr, OnOk, false};
+ghost use Rattle.std.specs.Prelude.{option_copied, option_map, option_to_list, true};
 ghost use Rattle.stage_commands.specs.Actions.{IsUnchanged};
 ghost use Rattle.stage_commands.specs.Taken.{IsNewNumber, IsNext, LeftBy, MayChange, Performs};
 ghost use Rattle.stage_commands.specs.Taken.{RecordLeftBy, Takes};
@@ -70,7 +70,8 @@ fn replace_files<F: StageFolder>(
 }
 
 fn are_none(files: &[ReplacedFile]) -> bool
-    ensures { result ≡ true → files.now ≡ [] }
+    ensures none { result ≡ true → files.now ≡ [] }
+    ensures some { result ≡ false → files.now ≢ [] }
 {
     files.is_empty()
 }
