@@ -1,4 +1,5 @@
 mod Accepted
+mod Again
 mod Changing
 mod Opening
 mod Plans

@@ -32,6 +32,7 @@ mod counters;
 mod folder_opening;
 mod gathered;
 mod judged;
+mod laws;
 mod lifting;
 mod locking;
 mod next_rows;
@@ -54,4 +55,5 @@ mod warned;
 
 pub use actions::stage_in;
 pub use folder_opening::stage;
+pub use laws::stopped_is_undoable;
 pub use stage_servers::{StageOptions, StageOutcome};

@@ -18,7 +18,8 @@ use stage_servers::{Lines, Stop, in_folder, refusal_of};
 use stage_text::push_step;
 use std::alloc::Global;
 
-// Restores the files of a step.
+// Restores the files of a step. After a stop none of them is edited (`stopped_is_undoable`), so it
+// can be called again.
 #[tactic(auto, using(crate::proofs::Left::unchanged_undo, crate::proofs::Left::not_restored))]
 fn restore_files<F: StageFolder>(
     alloc: Global,
