@@ -1,8 +1,8 @@
 -- What a stop leaves, from what each part leaves.
 use Rattle.std.proofs.Common.{◌≡◌, ◌≢◌, ◌∙◌, ap, refl, subst, sym, ℕ, List, [], ◌∷◌, true}
-use Rattle.std.proofs.Common.{false, zero, suc, inl, inr}
-use Rattle.std.specs.Prelude.{Some, None, Result, Ok, Err, IfErr, IfOk, OnOk, IfSome, option_map}
-use Rattle.std.specs.Prelude.{option_copied}
+use Rattle.std.proofs.Common.{false, zero, suc, ◌⊎◌, inl, inr}
+use Rattle.std.specs.Prelude.{Some, None, Result, Ok, Err, IfErr, IfOk, OnErr, OnOk, IfSome}
+use Rattle.std.specs.Prelude.{option_copied, option_map}
 use Rattle.stage_records.specs.Steps.{ReplacedFile, StagingStep, last_step}
 use Rattle.stage_records.specs.declared.action.StageAction.{StageAction}
 use Rattle.stage_records.specs.declared.action.StageAction.TheVariants as action
@@ -263,6 +263,11 @@ unchanged_action (action.Put next) why old_records new_records old new same e =
 unchanged_action (action.Resume appid buckets) why old_records new_records old new same e =
     unchanged_by why old_records new_records old new same e
 
+-- nothing has changed, or of what was planned this also holds
+pub planned_with : (A B C : Type 0) → C → A ⊎ B → A ⊎ (B × C)
+planned_with A B C is (inl same) = inl same
+planned_with A B C is (inr planned) = inr (planned, is)
+
 -- ---- results
 
 pub on_ok : {T E : Type 0} (r : Result T E) (P Q : Type 0) → (P → Q) → OnOk r P → OnOk r Q
@@ -272,6 +277,10 @@ on_ok (Err e) P Q f p = tt
 pub on_ok_of : {T E : Type 0} (r : Result T E) (P : Type 0) → P → OnOk r P
 on_ok_of (Ok x) P p = p
 on_ok_of (Err e) P p = tt
+
+pub on_err_of : {T E : Type 0} (r : Result T E) (P : Type 0) → P → OnErr r P
+on_err_of (Ok x) P p = tt
+on_err_of (Err e) P p = p
 
 pub if_ok_of : {T E : Type 0} (r : Result T E) (P : T → Type 0) → ((x : T) → P x) → IfOk r P
 if_ok_of (Ok x) P p = p x

@@ -5,7 +5,7 @@ use Rattle.std.specs.Prelude.{All, Bool, IfSome, option_map, option_to_list, fal
 use Rattle.std.proofs.lemmas.List.Elements.{All-cons, All-nil}
 use Rattle.bounded_files.specs.Files.{KnownFiles}
 use Rattle.stage_folder.specs.Folders.{KnownFolder, KnownRecords, put, put_known}
-use Rattle.stage_folder.specs.Steps.{IsFoundBy, done, edited_place, is_change}
+use Rattle.stage_folder.specs.Steps.{IsFoundBy, done, is_change}
 use Rattle.stage_folder.specs.declared.records.RecordedSteps.{RecordedSteps}
 use Rattle.stage_records.specs.Steps.{ReplacedFile, StagingStep, last_step}
 use Rattle.stage_records.specs.declared.step.StepAction.{StepAction}
@@ -13,7 +13,7 @@ use Rattle.stage_records.specs.declared.step.StepAction.TheVariants.{Halt, HaltR
 use Rattle.stage_records.specs.declared.step.StepAction.TheVariants.{Resume}
 use Rattle.stage_servers.specs.declared.options.StageOptions.{StageOptions}
 use Rattle.stage_commands.specs.Apps.{Replaces, ReplacesBy}
-use Rattle.stage_commands.specs.Backs.{HasGoneBack, PlansBack, UndoingLiftsNone, Undoes}
+use Rattle.stage_commands.specs.Backs.{HasGoneBack, IsAsLeft, PlansBack, UndoingLiftsNone, Undoes}
 use Rattle.stage_commands.specs.Compared.{IsAcceptedWith}
 use Rattle.stage_commands.specs.Puts.{HasPut}
 use Rattle.stage_commands.specs.PutPlans.{IsPutPlan}
@@ -202,12 +202,18 @@ has_put laws known current manifest options old_records new_records old new plan
           (done_by _ _ _ _ _ _ old new takes);
     }
 
+pub last_unedited : (files : KnownFolder) (steps : List StagingStep) (step : StagingStep)
+    → Some step ≡ last_step steps → IfSome (last_step steps) (IsAsLeft files)
+    → IsAsLeft files step
+last_unedited files steps step is unedited =
+    subst (λ o. IfSome o (IsAsLeft files)) (sym is) unedited
+
 pub plans_back : (known : KnownFiles) (current : List ℕ) (anyway : Bool) (records : KnownRecords)
     (files : KnownFolder) (recorded : RecordedSteps) (step : StagingStep)
     → AreAllRead records recorded → Some step ≡ last_step recorded.steps.items
     → (anyway ≡ false → IfSome (last_step recorded.steps.items)
     (UndoingLiftsNone known current recorded.steps.items))
-    → IfSome files (λ folder. edited_place step.files folder ≡ None)
+    → IsAsLeft files step
     → PlansBack known current anyway records files
 plans_back known current anyway records files recorded step are last lifts unedited = record {
   step = step;
@@ -223,7 +229,7 @@ pub gone_back : (known : KnownFiles) (current : List ℕ) (anyway : Bool)
     → Some step ≡ last_step recorded.steps.items
     → (anyway ≡ false → IfSome (last_step recorded.steps.items)
     (UndoingLiftsNone known current recorded.steps.items))
-    → IfSome old (λ folder. edited_place step.files folder ≡ None)
+    → IsAsLeft old step
     → Undoes step old_records new_records old new
     → HasGoneBack known current anyway old_records new_records old new
 unfolding plans_back

@@ -1,6 +1,6 @@
 -- What is known of an action before it changes a file: so it may be done, or for `--dry-run` could
 -- be.
-use Rattle.std.specs.Prelude.{ℕ, List, Option, IfSome}
+use Rattle.std.specs.Prelude.{◌⊎◌, ℕ, List, Option, IfSome}
 use Rattle.bounded_files.specs.Files.{KnownFiles}
 use Rattle.stage_folder.specs.Folders.{KnownFolder, KnownRecords}
 use Rattle.stage_folder.specs.declared.records.RecordedSteps.{RecordedSteps}
@@ -8,6 +8,7 @@ use Rattle.stage_records.specs.Steps.{ReplacedFile}
 use Rattle.stage_records.specs.declared.action.StageAction.{StageAction}
 use Rattle.stage_records.specs.declared.action.StageAction.TheVariants as action
 use Rattle.stage_servers.specs.declared.options.StageOptions.{StageOptions}
+use Rattle.stage_commands.specs.Actions.{HasNoEdits, IsUnchanged}
 use Rattle.stage_commands.specs.Backs.{PlansBack}
 use Rattle.stage_commands.specs.Compared.{IsAcceptedWith}
 use Rattle.stage_commands.specs.Puts.{PlansPut}
@@ -51,3 +52,9 @@ module _ (known : KnownFiles) (manifest : List ℕ) (options : StageOptions)
   IsPlanned (action.Put next) = IsPutPlanned next.now
   IsPlanned (action.Resume appid buckets) = IsResumePlanned appid.now buckets
   IsPlanned other = Unit {0}
+
+  -- nothing has changed; or by the records and files before, the action is planned, and no edit of
+  -- a file stops it
+  abbrev pub IsForeseen : StageAction → (new_records : KnownRecords) → (new : KnownFolder) → Type 0
+  IsForeseen action new_records new = IsUnchanged records new_records files new
+      ⊎ (IsPlanned action × HasNoEdits options action records files)

@@ -1,9 +1,9 @@
 //! One action of `stage`, from the folder to the servers.
 
-ghost use Rattle.std.specs.Prelude.{◌≡◌, IfErr, IfOk, OnOk, false, true};
+ghost use Rattle.std.specs.Prelude.{◌≡◌, IfErr, IfOk, OnErr, OnOk, false, true};
 ghost use Rattle.stage_commands.specs.Actions.{HasNoEdits, IsStaged, IsStagedOrLeft, IsUnchanged};
 ghost use Rattle.stage_commands.specs.Actions.{LeftByAction};
-ghost use Rattle.stage_commands.specs.Planned.{IsPlanned};
+ghost use Rattle.stage_commands.specs.Planned.{IsForeseen, IsPlanned};
 ghost use Rattle.stage_servers.specs.Whole as specs;
 ghost use Rattle.stage_servers.specs.Whole.{IsSeenWhole};
 
@@ -91,6 +91,9 @@ where
         (F.records folder.new) (F.files folder.old) (F.files folder.new) }
     ensures unchanged { call.now.options.now.dry_run ≡ true → IsUnchanged (F.records folder.old)
         (F.records folder.new) (F.files folder.old) (F.files folder.new) }
+    ensures foreseen { OnErr result (IsForeseen (D.known call.now.disk.now) call.now.manifest.now
+        call.now.options.now (F.records folder.old) (F.files folder.old) action.now
+        (F.records folder.new) (F.files folder.new)) }
 {
     if only_looks(action) {
         return match look(call, &*folder, action, lines) {
@@ -135,6 +138,9 @@ where
         (F.records folder.new) (F.files folder.old) (F.files folder.new) }
     ensures unchanged { options.now.dry_run ≡ true → IsUnchanged (F.records folder.old)
         (F.records folder.new) (F.files folder.old) (F.files folder.new) }
+    ensures foreseen { IsForeseen (D.known disk.now) manifest.now options.now
+        (F.records folder.old) (F.files folder.old) action.now (F.records folder.new)
+        (F.files folder.new) }
 {
     let call = StageCall {
         rt,
@@ -185,6 +191,9 @@ where
         (F.records folder.new) (F.files folder.old) (F.files folder.new) }
     ensures unchanged { options.now.dry_run ≡ true → IsUnchanged (F.records folder.old)
         (F.records folder.new) (F.files folder.old) (F.files folder.new) }
+    ensures foreseen { IsForeseen (D.known disk.now) manifest.now options.now
+        (F.records folder.old) (F.files folder.old) action.now (F.records folder.new)
+        (F.files folder.new) }
 {
     stage_on(
         rt,

@@ -1,6 +1,6 @@
 //! `stage halt`: the app's file is replaced by the one that offers no release.
 
-ghost use Rattle.std.specs.Prelude.{◌≡◌, IfErr, IfOk, OnOk, false, true};
+ghost use Rattle.std.specs.Prelude.{◌≡◌, ◌⊎◌, IfErr, IfOk, OnErr, OnOk, false, true};
 ghost use Rattle.bounded_files.specs.Files.{KnownFiles};
 ghost use Rattle.load.specs.Opened.{IsCollected};
 ghost use Rattle.stage_commands.specs.Actions.{IsUnchanged};
@@ -106,6 +106,10 @@ where
         (F.records folder.new) (F.files folder.old) (F.files folder.new)) }
     ensures unchanged { call.now.options.now.dry_run ≡ true → IsUnchanged (F.records folder.old)
         (F.records folder.new) (F.files folder.old) (F.files folder.new) }
+    ensures foreseen { OnErr result (IsUnchanged (F.records folder.old) (F.records folder.new)
+        (F.files folder.old) (F.files folder.new)
+        ⊎ IsHaltPlanned (D.known call.now.disk.now) call.now.manifest.now
+        call.now.options.now (F.records folder.old) (F.files folder.old) appid.now) }
 {
     let alloc = call.rt.alloc();
     let number = match number_in(alloc, folder) {

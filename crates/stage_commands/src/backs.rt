@@ -1,8 +1,8 @@
 //! `stage back`: the last step that isn't undone is undone.
 
-ghost use Rattle.std.specs.Prelude.{◌≡◌, IfErr, IfSome, OnOk, false, true};
+ghost use Rattle.std.specs.Prelude.{◌≡◌, ◌⊎◌, IfErr, IfSome, OnErr, OnOk, false, true};
 ghost use Rattle.stage_commands.specs.Actions.{IsUnchanged};
-ghost use Rattle.stage_commands.specs.Backs.{HasGoneBack, PlansBack, UndoingLiftsNone};
+ghost use Rattle.stage_commands.specs.Backs.{HasGoneBack, IsAsLeft, PlansBack, UndoingLiftsNone};
 ghost use Rattle.stage_commands.specs.Taken.{LeftByBack};
 ghost use Rattle.stage_records.specs.Steps.{last_step};
 
@@ -29,27 +29,8 @@ fn take_last(steps: Vec<StagingStep>) -> Option<StagingStep>
     None
 }
 
-// Prints what changes if the last of these steps is undone.
-fn compare_last<R, D>(
-    call: &StageCall<'_, R, D>,
-    steps: &[StagingStep],
-    lines: &mut Lines,
-) -> Result<(), Stop>
-where
-    R: AllocGlobal + Clock + Net<Stream = TcpStream>,
-    D: Disk,
-    ensures { OnOk result (call.now.options.now.anyway ≡ false
-        → IfSome (last_step steps.now) (UndoingLiftsNone (D.known call.now.disk.now)
-        call.now.manifest.now steps.now)) }
-{
-    match last_step(steps) {
-        Some(step) => compare_restored(call, steps, step, lines),
-        None => Err(refused(call.rt.alloc(), NOTHING_TO_UNDO)),
-    }
-}
-
-// The same, unless a file of that step was edited since.
-fn compare_unedited<R, D, F>(
+// Prints what changes if the last of these steps is undone, unless a file of it was edited since.
+fn compare_last<R, D, F>(
     call: &StageCall<'_, R, D>,
     folder: &F,
     steps: &[StagingStep],
@@ -59,18 +40,18 @@ where
     R: AllocGlobal + Clock + Net<Stream = TcpStream>,
     D: Disk,
     F: StageFolder,
-    ensures { OnOk result (call.now.options.now.anyway ≡ false
+    ensures lifts_none { OnOk result (call.now.options.now.anyway ≡ false
         → IfSome (last_step steps.now) (UndoingLiftsNone (D.known call.now.disk.now)
         call.now.manifest.now steps.now)) }
+    ensures unedited { OnOk result
+        (IfSome (last_step steps.now) (IsAsLeft (F.files folder.now))) }
 {
-    if let Some(step) = last_step(steps)
-        && let Err(stop) = stop_at_edit(call.rt.alloc(), folder, step)
-    {
-        return Err(stop);
-    }
-    match compare_last(call, steps, lines) {
-        Ok(()) => Ok(()),
-        Err(stop) => Err(stop),
+    match last_step(steps) {
+        Some(step) => match stop_at_edit(call.rt.alloc(), folder, step) {
+            Ok(()) => compare_restored(call, steps, step, lines),
+            Err(stop) => Err(stop),
+        },
+        None => Err(refused(call.rt.alloc(), NOTHING_TO_UNDO)),
     }
 }
 
@@ -96,13 +77,17 @@ where
         (F.records folder.new) (F.files folder.old) (F.files folder.new)) }
     ensures unchanged { call.now.options.now.dry_run ≡ true → IsUnchanged (F.records folder.old)
         (F.records folder.new) (F.files folder.old) (F.files folder.new) }
+    ensures foreseen { OnErr result (IsUnchanged (F.records folder.old) (F.records folder.new)
+        (F.files folder.old) (F.files folder.new)
+        ⊎ PlansBack (D.known call.now.disk.now) call.now.manifest.now
+        call.now.options.now.anyway (F.records folder.old) (F.files folder.old)) }
 {
     let alloc = call.rt.alloc();
     let recorded = match read_steps(alloc, folder) {
         Ok(recorded) => recorded,
         Err(stop) => return Err(stop),
     };
-    if let Err(stop) = compare_unedited(call, &*folder, &recorded.steps, lines) {
+    if let Err(stop) = compare_last(call, &*folder, &recorded.steps, lines) {
         return Err(stop);
     }
     let Some(step) = take_last(recorded.steps) else {

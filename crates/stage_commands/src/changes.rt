@@ -1,8 +1,8 @@
 //! An action that changes files: what is found before, the change, and the servers' loads.
 
-ghost use Rattle.std.specs.Prelude.{◌≡◌, IfErr, OnOk, false, true};
+ghost use Rattle.std.specs.Prelude.{◌≡◌, ◌⊎◌, IfErr, OnErr, OnOk, false, true};
 ghost use Rattle.stage_commands.specs.Actions.{HasNoEdits, IsStaged, IsUnchanged, LeftByAction};
-ghost use Rattle.stage_commands.specs.Planned.{IsPlanned};
+ghost use Rattle.stage_commands.specs.Planned.{IsForeseen, IsPlanned};
 
 use crate::app_halts::halt;
 use crate::backs::go_back;
@@ -44,6 +44,10 @@ where
         (F.files folder.new)) }
     ensures unchanged { call.now.options.now.dry_run ≡ true → IsUnchanged (F.records folder.old)
         (F.records folder.new) (F.files folder.old) (F.files folder.new) }
+    ensures foreseen { OnErr result (IsUnchanged (F.records folder.old) (F.records folder.new)
+        (F.files folder.old) (F.files folder.new)
+        ⊎ IsPlanned (D.known call.now.disk.now) call.now.manifest.now
+        call.now.options.now (F.records folder.old) (F.files folder.old) action.now) }
 {
     match *action {
         StageAction::Halt { appid } => halt(call, folder, appid, lines),
@@ -126,6 +130,9 @@ where
         (F.files folder.new)) }
     ensures unchanged { call.now.options.now.dry_run ≡ true → IsUnchanged (F.records folder.old)
         (F.records folder.new) (F.files folder.old) (F.files folder.new) }
+    ensures foreseen { OnErr result (IsForeseen (D.known call.now.disk.now) call.now.manifest.now
+        call.now.options.now (F.records folder.old) (F.files folder.old) action.now
+        (F.records folder.new) (F.files folder.new)) }
 {
     let Found { servers, halted } = match found_before(call, &*folder, action, lines) {
         Ok(found) => found,

@@ -1,7 +1,7 @@
 //! `stage raise`: the number of the one threshold in the app's rule is changed.
 
-ghost use Rattle.std.specs.Prelude.{◌≡◌, IfErr, IfOk, IfSome, OnOk, Some, false, string_bytes};
-ghost use Rattle.std.specs.Prelude.{true};
+ghost use Rattle.std.specs.Prelude.{◌≡◌, ◌⊎◌, IfErr, IfOk, IfSome, OnErr, OnOk, Some, false};
+ghost use Rattle.std.specs.Prelude.{string_bytes, true};
 ghost use Rattle.bounded_files.specs.Files.{KnownFiles};
 ghost use Rattle.load.specs.Opened.{IsCollected};
 ghost use Rattle.manifest.specs.App.{file_of};
@@ -179,6 +179,10 @@ where
         (F.records folder.new) (F.files folder.old) (F.files folder.new)) }
     ensures unchanged { call.now.options.now.dry_run ≡ true → IsUnchanged (F.records folder.old)
         (F.records folder.new) (F.files folder.old) (F.files folder.new) }
+    ensures foreseen { OnErr result (IsUnchanged (F.records folder.old) (F.records folder.new)
+        (F.files folder.old) (F.files folder.new)
+        ⊎ IsRaisePlanned (D.known call.now.disk.now) call.now.manifest.now
+        call.now.options.now (F.records folder.old) (F.files folder.old) appid.now buckets) }
 {
     let alloc = call.rt.alloc();
     let recorded = match read_steps(alloc, folder) {

@@ -1,7 +1,7 @@
 //! `stage resume`: the app's file gets what it had before its last halt, or that rule with another
 //! number in its threshold.
 
-ghost use Rattle.std.specs.Prelude.{◌≡◌, IfErr, IfOk, IfSome, OnOk, false, true};
+ghost use Rattle.std.specs.Prelude.{◌≡◌, ◌⊎◌, IfErr, IfOk, IfSome, OnErr, OnOk, false, true};
 ghost use Rattle.bounded_files.specs.Files.{KnownFiles};
 ghost use Rattle.load.specs.Opened.{IsCollected};
 ghost use Rattle.stage_commands.specs.Actions.{IsUnchanged};
@@ -145,6 +145,10 @@ where
         (F.records folder.new) (F.files folder.old) (F.files folder.new)) }
     ensures unchanged { call.now.options.now.dry_run ≡ true → IsUnchanged (F.records folder.old)
         (F.records folder.new) (F.files folder.old) (F.files folder.new) }
+    ensures foreseen { OnErr result (IsUnchanged (F.records folder.old) (F.records folder.new)
+        (F.files folder.old) (F.files folder.new)
+        ⊎ IsResumePlanned (D.known call.now.disk.now) call.now.manifest.now
+        call.now.options.now (F.records folder.old) (F.files folder.old) appid.now buckets) }
 {
     let alloc = call.rt.alloc();
     let recorded = match read_steps(alloc, folder) {

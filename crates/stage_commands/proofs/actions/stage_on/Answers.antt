@@ -9,3 +9,6 @@ returns-in-Err-clause-left g c = λ wet.
 pub returns-in-Ok-clause-unedited : goal.returns-in-Ok-clause-unedited
 returns-in-Ok-clause-unedited g c =
     if_ok_of c.into_outcome.result _ (λ outcome done. c.in-Ok.ensures.unedited)
+
+pub returns-in-Ok-clause-foreseen : goal.returns-in-Ok-clause-foreseen
+returns-in-Ok-clause-foreseen g c = inr (c.in-Ok.ensures.planned, c.in-Ok.ensures.unedited)

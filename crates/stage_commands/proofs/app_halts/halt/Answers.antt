@@ -1,6 +1,7 @@
+use Rattle.std.proofs.Common.{inr}
 use Rattle.stage_commands.proofs.Replacing.{halt_found}
 use Rattle.stage_commands.proofs.app_halts.halt.Goals as goal
-use Rattle.stage_commands.proofs.Left.{on_ok_of}
+use Rattle.stage_commands.proofs.Left.{on_err_of, on_ok_of}
 
 pub take_file-requires-clause-found : goal.take_file-requires-clause-found
 take_file-requires-clause-found g c =
@@ -9,3 +10,7 @@ take_file-requires-clause-found g c =
 pub returns-in-Ok-planned_file-clause-planned : goal.returns-in-Ok-planned_file-clause-planned
 returns-in-Ok-planned_file-clause-planned g c =
     on_ok_of c.take_file.result _ (c.in-Ok-planned_file.file, c.in-Ok-planned_file.ensures)
+
+pub returns-in-Ok-planned_file-clause-foreseen : goal.returns-in-Ok-planned_file-clause-foreseen
+returns-in-Ok-planned_file-clause-foreseen g c = on_err_of c.take_file.result _
+    (inr (c.in-Ok-planned_file.file, c.in-Ok-planned_file.ensures))

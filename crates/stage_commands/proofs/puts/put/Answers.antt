@@ -1,3 +1,4 @@
+use Rattle.std.proofs.Common.{inr}
 use Rattle.stage_commands.proofs.Put.{found_changes}
 use Rattle.stage_commands.proofs.Replacing.{has_put}
 use Rattle.stage_commands.proofs.puts.put.Goals as goal
@@ -20,3 +21,8 @@ pub returns-in-Ok-take_step-clause-planned : goal.returns-in-Ok-take_step-clause
 returns-in-Ok-take_step-clause-planned g c =
     let plan = rw c.in-Ok.field-0-is at c.in-Ok.ensures in
     (plan.recorded, plan.are, (c.in-Ok.field-0.files.items, plan.files))
+
+pub returns-in-Err-take_step-clause-foreseen : goal.returns-in-Err-take_step-clause-foreseen
+returns-in-Err-take_step-clause-foreseen g c =
+    let plan = rw c.in-Ok.field-0-is at c.in-Ok.ensures in
+    inr (plan.recorded, plan.are, (c.in-Ok.field-0.files.items, plan.files))

@@ -1,5 +1,5 @@
-use Rattle.std.proofs.Common.{rules}
-use Rattle.stage_commands.proofs.Left.{on_ok, on_ok_of}
+use Rattle.std.proofs.Common.{inr, rules}
+use Rattle.stage_commands.proofs.Left.{on_err_of, on_ok, on_ok_of}
 use Rattle.stage_commands.proofs.Replacing.{raise_found, raised}
 use Rattle.stage_commands.proofs.raises.raise.Goals as goal
 
@@ -23,3 +23,13 @@ returns-in-Ok-planned_file-clause-planned g c =
       plans.planned,
       plans.accepted,
     )
+
+pub returns-in-Ok-planned_file-clause-foreseen : goal.returns-in-Ok-planned_file-clause-foreseen
+returns-in-Ok-planned_file-clause-foreseen g c =
+    let plans = c.in-Ok-planned_file.ensures in
+    on_err_of c.take_file.result _ (inr (
+      (c.in-Ok.recorded, c.in-Ok.ensures),
+      c.in-Ok-planned_file.file,
+      plans.planned,
+      plans.accepted,
+    ))

@@ -1,5 +1,5 @@
-use Rattle.std.proofs.Common.{rules}
-use Rattle.stage_commands.proofs.Left.{on_ok, on_ok_of}
+use Rattle.std.proofs.Common.{inr, rules}
+use Rattle.stage_commands.proofs.Left.{on_err_of, on_ok, on_ok_of}
 use Rattle.stage_commands.proofs.Replacing.{resume_found, resumed}
 use Rattle.stage_commands.proofs.resumes.resume.Goals as goal
 
@@ -22,3 +22,12 @@ returns-in-Ok-owned_text-clause-planned g c =
       c.in-Ok.ensures,
       (c.in-Ok-planned.file, plans, c.in-Ok-planned.ensures.accepted),
     )
+
+pub returns-in-Ok-owned_text-clause-foreseen : goal.returns-in-Ok-owned_text-clause-foreseen
+returns-in-Ok-owned_text-clause-foreseen g c =
+    let plans = rw c.deref.ensures.value at c.in-Ok-planned.ensures.planned in
+    on_err_of c.take_file.result _ (inr (
+      c.in-Ok.recorded,
+      c.in-Ok.ensures,
+      (c.in-Ok-planned.file, plans, c.in-Ok-planned.ensures.accepted),
+    ))
