@@ -16,11 +16,10 @@ use Rattle.stage_folder.specs.declared.folder_fault.RecordFault.TheVariants as f
 use Rattle.stage_folder.specs.declared.records.RecordedSteps.{RecordedSteps}
 use Rattle.stage_commands.specs.Actions.{LeftByAction}
 use Rattle.stage_commands.specs.Backs.{Undoes}
-use Rattle.stage_commands.specs.Taken.{AddAtMostOne, IsLast, IsLeft, IsLeftUndone, IsNewNumber}
-use Rattle.stage_commands.specs.Taken.{IsNext, IsTrueAfter, LeftBy, LeftByBack, LeftByUndo}
-use Rattle.stage_commands.specs.Taken.{MayChange, RecordLeftBy, as_undone}
+use Rattle.stage_commands.specs.Taken.{IsLast, IsLeftTaken, IsLeftUndone, IsNewNumber, IsNext}
+use Rattle.stage_commands.specs.Taken.{IsTrueAfter, LeftBy, LeftByBack, LeftByTake, LeftByUndo}
+use Rattle.stage_commands.specs.Taken.{MayChange, Performs, RecordLeftBy, Takes, as_undone}
 use Rattle.stage_servers.specs.Whole.{AreAllRead}
-use Rattle.stage_commands.specs.Taken.{Performs, Takes, unchanged, partly_done}
 use Rattle.stage_servers.specs.declared.options.StageOptions.{StageOptions}
 use Rattle.stage_servers.specs.declared.outcome.Stop.{Stop}
 use Rattle.stage_servers.specs.declared.outcome.Stop.TheVariants as stop
@@ -31,11 +30,18 @@ same (Some folder) = refl
 
 -- ---- before a file is changed
 
-pub unchanged_by : (why : Stop) (old_records new_records : KnownRecords) (old new : KnownFolder)
-    → new_records ≡ old_records → new ≡ old → LeftBy why old_records new_records old new
-unchanged_by (stop.Refused reason) old_records new_records old new same e = (same, e)
-unchanged_by (stop.Failed reason) old_records new_records old new same e = unchanged (inl same) e
-unchanged_by stop.Memory old_records new_records old new same e = unchanged (inl same) e
+pub unchanged_by : (options : StageOptions) (did : StepAction) (why : Stop)
+    (old_records new_records : KnownRecords) (old new : KnownFolder) → new_records ≡ old_records
+    → new ≡ old → LeftBy options did why old_records new_records old new
+unchanged_by options did why old_records new_records old new same e = inl (same, e)
+
+pub unchanged_take : (why : Stop) (step : StagingStep) (old_records new_records : KnownRecords)
+    (old new : KnownFolder) → new_records ≡ old_records → new ≡ old
+    → LeftByTake why step old_records new_records old new
+unchanged_take (stop.Refused reason) step old_records new_records old new same e = (same, e)
+unchanged_take (stop.Failed reason) step old_records new_records old new same e =
+    inl (inl same, e)
+unchanged_take stop.Memory step old_records new_records old new same e = inl (inl same, e)
 
 -- ---- a step
 
@@ -43,37 +49,55 @@ pub new_number : (records : KnownRecords) (number : ℕ) → IsFree records numb
     → FollowsRecord records (Some number) → IsNewNumber records number
 new_number records number free follows = record { free = free; follows = follows }
 
-pub next_step : (records : KnownRecords) (folder : KnownFolder) (number : ℕ)
-    (files : List ReplacedFile) (step : StagingStep) → IsNewNumber records number
-    → IfSome folder (IsFoundBy files) → step.number ≡ number → step.files ≡ files
-    → step.is_undone ≡ false → IsNext records folder step
-next_step records folder number files step fresh found numbered has not_yet = record {
-  is_new = subst (IsNewNumber records) (sym numbered) fresh;
-  not_undone = not_yet;
-  found = subst (λ fs. IfSome folder (IsFoundBy fs)) (sym has) found;
-}
+pub next_step : (options : StageOptions) (did : StepAction) (records : KnownRecords)
+    (folder : KnownFolder) (number : ℕ) (files : List ReplacedFile) (step : StagingStep)
+    → IsNewNumber records number → IfSome folder (IsFoundBy files) → step.number ≡ number
+    → step.action ≡ did → step.user ≡ option_copied options.user
+    → step.because ≡ option_copied options.because → step.files ≡ files
+    → step.is_undone ≡ false → IsNext options did records folder step
+next_step options did records folder number files step fresh found numbered acts by why has
+    not_yet = record {
+      is_new = subst (IsNewNumber records) (sym numbered) fresh;
+      action_is = acts;
+      user_is = by;
+      because_is = why;
+      found = subst (λ fs. IfSome folder (IsFoundBy fs)) (sym has) found;
+      not_undone = not_yet;
+    }
+
+pub left_taken : (options : StageOptions) (did : StepAction) (why : Stop) (step : StagingStep)
+    (old_records new_records : KnownRecords) (old new : KnownFolder)
+    → IsNext options did old_records old step
+    → LeftByTake why step old_records new_records old new
+    → LeftBy options did why old_records new_records old new
+left_taken options did why step old_records new_records old new next left =
+    inr (step, next, left)
+
+pub left_for : (why : Stop) (options : StageOptions) (did wanted : StepAction)
+    (old_records new_records : KnownRecords) (old new : KnownFolder) → did ≡ wanted
+    → LeftBy options did why old_records new_records old new
+    → LeftBy options wanted why old_records new_records old new
+left_for why options did wanted old_records new_records old new is left =
+    subst (λ a. LeftBy options a why old_records new_records old new) is left
+
+pub left_as : (r : Result (Unit {0}) Stop) (options : StageOptions) (did wanted : StepAction)
+    (old_records new_records : KnownRecords) (old new : KnownFolder) → did ≡ wanted
+    → IfErr r (λ why. LeftBy options did why old_records new_records old new)
+    → IfErr r (λ why. LeftBy options wanted why old_records new_records old new)
+left_as r options did wanted old_records new_records old new is left =
+    subst (λ a. IfErr r (λ why. LeftBy options a why old_records new_records old new)) is left
 
 pub found_files : (folder : KnownFolder) (files wanted : List ReplacedFile) → files ≡ wanted
     → IfSome folder (IsFoundBy wanted) → IfSome folder (IsFoundBy files)
 found_files folder files wanted same found =
     subst (λ fs. IfSome folder (IsFoundBy fs)) (sym same) found
 
-adds_one : (step : StagingStep) (old_records new_records : KnownRecords) (old : KnownFolder)
-    → IsNext old_records old step → MayBeRecorded step old_records new_records
-    → AddAtMostOne old_records new_records old
-adds_one step old_records new_records old next (inl same) = inl same
-adds_one step old_records new_records old next (inr is) =
-    inr (step, record { next = next; recorded = is })
-
 pub not_recorded : (why : Stop) (step : StagingStep) (old_records new_records : KnownRecords)
-    (old new : KnownFolder) → IsNext old_records old step
-    → RecordLeftBy why step old_records new_records → new ≡ old
-    → LeftBy why old_records new_records old new
-not_recorded (stop.Refused reason) step old_records new_records old new next left e = (left, e)
-not_recorded (stop.Failed reason) step old_records new_records old new next left e =
-    unchanged (adds_one step old_records new_records old next left) e
-not_recorded stop.Memory step old_records new_records old new next left e =
-    unchanged (adds_one step old_records new_records old next left) e
+    (old new : KnownFolder) → RecordLeftBy why step old_records new_records → new ≡ old
+    → LeftByTake why step old_records new_records old new
+not_recorded (stop.Refused reason) step old_records new_records old new left e = (left, e)
+not_recorded (stop.Failed reason) step old_records new_records old new left e = inl (left, e)
+not_recorded stop.Memory step old_records new_records old new left e = inl (left, e)
 
 pub may_be : (why : RecordFault) (step : StagingStep) (old new : KnownRecords)
     → AreRecordsAfter why step old new → MayBeRecorded step old new
@@ -102,16 +126,18 @@ record_left said (fault.Unknown of) step old new is left =
     not_written said step old new is left
 
 module _ (step : StagingStep) (old_records mid new_records : KnownRecords)
-    (old between new : KnownFolder) (next : IsNext old_records old step)
-    (is : IsRecorded step old_records mid) (same : new_records ≡ mid)
-    (distinct : has_distinct_names step.files ≡ true) (e : between ≡ old)
-    (part : IsPartlyDone step.files between new) where
-  left_partly : IsLeft old_records new_records old new
-  left_partly = partly_done step
-      (record { next = next; recorded = subst (IsRecorded step old_records) (sym same) is })
-      distinct (subst (λ known. IsPartlyDone step.files known new) e part)
+    (old between new : KnownFolder) (is : IsRecorded step old_records mid)
+    (same : new_records ≡ mid) (distinct : has_distinct_names step.files ≡ true)
+    (e : between ≡ old) (part : IsPartlyDone step.files between new) where
+  left_partly : IsLeftTaken step old_records new_records old new
+  left_partly = inr (
+    subst (IsRecorded step old_records) (sym same) is,
+    distinct,
+    subst (λ known. IsPartlyDone step.files known new) e part,
+  )
 
-  pub partly_done_by : (why : Stop) → MayChange why → LeftBy why old_records new_records old new
+  pub partly_done_by : (why : Stop) → MayChange why
+      → LeftByTake why step old_records new_records old new
   partly_done_by (stop.Refused reason) may = absurd may
   partly_done_by (stop.Failed reason) may = left_partly
   partly_done_by stop.Memory may = left_partly
@@ -225,18 +251,13 @@ undoes step old_records mid_records new_records old mid new all same noted e = r
 pub unchanged_back : (why : Stop) (old_records new_records : KnownRecords)
     (old new : KnownFolder) → new_records ≡ old_records → new ≡ old
     → LeftByBack why old_records new_records old new
-unchanged_back (stop.Refused reason) old_records new_records old new same e = (same, e)
-unchanged_back (stop.Failed reason) old_records new_records old new same e = inl (same, e)
-unchanged_back stop.Memory old_records new_records old new same e = inl (same, e)
+unchanged_back why old_records new_records old new same e = inl (same, e)
 
 pub left_undone : (why : Stop) (step : StagingStep) (old_records new_records : KnownRecords)
     (old new : KnownFolder) → IsLast old_records step
     → LeftByUndo why step old_records new_records old new
     → LeftByBack why old_records new_records old new
-left_undone (stop.Refused reason) step old_records new_records old new last left = left
-left_undone (stop.Failed reason) step old_records new_records old new last left =
-    inr (step, last, left)
-left_undone stop.Memory step old_records new_records old new last left = inr (step, last, left)
+left_undone why step old_records new_records old new last left = inr (step, last, left)
 
 pub last_of : (records : KnownRecords) (recorded : RecordedSteps) (step : StagingStep)
     → AreAllRead records recorded → last_step recorded.steps.items ≡ Some step
@@ -245,23 +266,23 @@ last_of records recorded step are is = record { recorded = recorded; are = are; 
 
 -- ---- any action
 
-pub unchanged_action : (did : StageAction) (why : Stop) (old_records new_records : KnownRecords)
-    (old new : KnownFolder) → new_records ≡ old_records → new ≡ old
-    → LeftByAction did why old_records new_records old new
-unchanged_action action.Back why old_records new_records old new same e =
-    unchanged_back why old_records new_records old new same e
-unchanged_action action.Status why old_records new_records old new same e = (e, same)
-unchanged_action (action.History appid) why old_records new_records old new same e = (e, same)
-unchanged_action (action.Halt appid) why old_records new_records old new same e =
-    unchanged_by why old_records new_records old new same e
-unchanged_action (action.HaltRelease appid version) why old_records new_records old new same e =
-    unchanged_by why old_records new_records old new same e
-unchanged_action (action.Raise appid buckets) why old_records new_records old new same e =
-    unchanged_by why old_records new_records old new same e
-unchanged_action (action.Put next) why old_records new_records old new same e =
-    unchanged_by why old_records new_records old new same e
-unchanged_action (action.Resume appid buckets) why old_records new_records old new same e =
-    unchanged_by why old_records new_records old new same e
+pub unchanged_action : (options : StageOptions) (did : StageAction) (why : Stop)
+    (old_records new_records : KnownRecords) (old new : KnownFolder) → new_records ≡ old_records
+    → new ≡ old → LeftByAction options did why old_records new_records old new
+unchanged_action options (action.Halt appid) why old_records new_records old new same e =
+    inl (same, e)
+unchanged_action options (action.HaltRelease appid version) why old_records new_records old new
+    same e = inl (same, e)
+unchanged_action options (action.Raise appid buckets) why old_records new_records old new same e =
+    inl (same, e)
+unchanged_action options action.Back why old_records new_records old new same e = inl (same, e)
+unchanged_action options (action.Put next) why old_records new_records old new same e =
+    inl (same, e)
+unchanged_action options (action.Resume appid buckets) why old_records new_records old new same e =
+    inl (same, e)
+unchanged_action options action.Status why old_records new_records old new same e = (e, same)
+unchanged_action options (action.History appid) why old_records new_records old new same e =
+    (e, same)
 
 -- nothing has changed, or of what was planned this also holds
 pub planned_with : (A B C : Type 0) → C → A ⊎ B → A ⊎ (B × C)

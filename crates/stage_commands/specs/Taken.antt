@@ -74,48 +74,50 @@ as_undone step = record {
   is_undone = true;
 }
 
--- ---- a stop
+-- ---- a stop while a step is taken
 
--- the step's number is new, it isn't undone, and it has the bytes that each file has
-pub record IsNext (records : KnownRecords) (folder : KnownFolder) (step : StagingStep)
-    : Type 0 where
-  pub is_new : IsNewNumber records step.number
-  pub not_undone : step.is_undone ≡ false
-  pub found : IfSome folder (IsFoundBy step.files)
-
--- such a step is recorded
-pub record IsAdded (step : StagingStep) (old_records new_records : KnownRecords)
-    (old : KnownFolder) : Type 0 where
-  pub next : IsNext old_records old step
-  pub recorded : IsRecorded step old_records new_records
-
--- the records are as before, or a step is added
-abbrev pub AddAtMostOne : (old_records new_records : KnownRecords) → (old : KnownFolder) → Type 0
-AddAtMostOne old_records new_records old = (new_records ≡ old_records)
-    ⊎ ((step : StagingStep) × IsAdded step old_records new_records old)
-
--- no file has changed, but a step may be added; or a step is added, and its files are replaced, in
--- part or all
-pub data IsLeft (old_records new_records : KnownRecords) (old new : KnownFolder) : Type 0 where
-  unchanged : AddAtMostOne old_records new_records old → new ≡ old
-      → IsLeft old_records new_records old new
-  partly_done : (step : StagingStep) → IsAdded step old_records new_records old
-      → has_distinct_names step.files ≡ true → IsPartlyDone step.files old new
-      → IsLeft old_records new_records old new
-
--- what says that nothing has changed leaves all records and files as before
-abbrev pub LeftBy : Stop → (old_records new_records : KnownRecords) → (old new : KnownFolder)
-    → Type 0
-LeftBy (stop.Refused reason) old_records new_records old new =
-    (new_records ≡ old_records) × (new ≡ old)
-LeftBy other old_records new_records old new = IsLeft old_records new_records old new
-
--- it doesn't say so
+-- a stop doesn't say that nothing has changed
 abbrev pub MayChange : Stop → Type 0
 MayChange (stop.Refused reason) = ⊥
 MayChange other = Unit {0}
 
--- ---- a stop of `back`
+-- the next step that does this, by the user and for the reason of the options: its number is new,
+-- it has the bytes that each file has, and it isn't undone
+pub record IsNext (options : StageOptions) (action : StepAction) (records : KnownRecords)
+    (folder : KnownFolder) (step : StagingStep) : Type 0 where
+  pub is_new : IsNewNumber records step.number
+  pub action_is : step.action ≡ action
+  pub user_is : step.user ≡ option_copied options.user
+  pub because_is : step.because ≡ option_copied options.because
+  pub found : IfSome folder (IsFoundBy step.files)
+  pub not_undone : step.is_undone ≡ false
+
+-- no file has changed, but a step may be recorded; or it is, and some of its files are replaced, or
+-- all
+abbrev pub IsLeftTaken : StagingStep → (old_records new_records : KnownRecords)
+    → (old new : KnownFolder) → Type 0
+IsLeftTaken step old_records new_records old new =
+    (MayBeRecorded step old_records new_records × (new ≡ old))
+    ⊎ (IsRecorded step old_records new_records × (has_distinct_names step.files ≡ true)
+    × IsPartlyDone step.files old new)
+
+-- a stop that says that nothing has changed leaves all records and files as before
+abbrev pub LeftByTake : Stop → StagingStep → (old_records new_records : KnownRecords)
+    → (old new : KnownFolder) → Type 0
+LeftByTake (stop.Refused reason) step old_records new_records old new =
+    (new_records ≡ old_records) × (new ≡ old)
+LeftByTake other step old_records new_records old new =
+    IsLeftTaken step old_records new_records old new
+
+-- nothing has changed; or the next step that does this is left so
+abbrev pub LeftBy : StageOptions → StepAction → Stop → (old_records new_records : KnownRecords)
+    → (old new : KnownFolder) → Type 0
+LeftBy options action stop old_records new_records old new =
+    ((new_records ≡ old_records) × (new ≡ old))
+    ⊎ ((step : StagingStep) × IsNext options action old_records old step
+    × LeftByTake stop step old_records new_records old new)
+
+-- ---- a stop while a step is undone
 
 -- some files of a step are restored; or all are, and its record says that it is undone
 abbrev pub IsLeftUndone : StagingStep → (old_records new_records : KnownRecords)
@@ -125,7 +127,7 @@ IsLeftUndone step old_records new_records old new =
     ⊎ (IsRecorded (as_undone step) old_records new_records
     × (new ≡ option_map (undone step.files) old))
 
--- the same of a stop while a step is undone
+-- a stop that says that nothing has changed leaves all records and files as before
 abbrev pub LeftByUndo : Stop → StagingStep → (old_records new_records : KnownRecords)
     → (old new : KnownFolder) → Type 0
 LeftByUndo (stop.Refused reason) step old_records new_records old new =
@@ -133,19 +135,12 @@ LeftByUndo (stop.Refused reason) step old_records new_records old new =
 LeftByUndo other step old_records new_records old new =
     IsLeftUndone step old_records new_records old new
 
--- nothing has changed; or files of the last step that isn't undone are restored
-abbrev pub IsLeftByBack : (old_records new_records : KnownRecords) → (old new : KnownFolder)
-    → Type 0
-IsLeftByBack old_records new_records old new = ((new_records ≡ old_records) × (new ≡ old))
-    ⊎ ((step : StagingStep) × IsLast old_records step
-    × IsLeftUndone step old_records new_records old new)
-
--- the same of a stop of `back`
+-- nothing has changed; or the last step that isn't undone is left so
 abbrev pub LeftByBack : Stop → (old_records new_records : KnownRecords) → (old new : KnownFolder)
     → Type 0
-LeftByBack (stop.Refused reason) old_records new_records old new =
-    (new_records ≡ old_records) × (new ≡ old)
-LeftByBack other old_records new_records old new = IsLeftByBack old_records new_records old new
+LeftByBack stop old_records new_records old new = ((new_records ≡ old_records) × (new ≡ old))
+    ⊎ ((step : StagingStep) × IsLast old_records step
+    × LeftByUndo stop step old_records new_records old new)
 
 -- ---- a record that can't be written
 

@@ -84,8 +84,8 @@ where
         (F.records folder.old) (F.files folder.old)) }
     ensures unedited { OnOk result (HasNoEdits call.now.options.now action.now
         (F.records folder.old) (F.files folder.old)) }
-    ensures stopped { IfErr result (λ stop. LeftByAction action.now stop
-        (F.records folder.old) (F.records folder.new) (F.files folder.old)
+    ensures stopped { IfErr result (λ stop. LeftByAction call.now.options.now
+        action.now stop (F.records folder.old) (F.records folder.new) (F.files folder.old)
         (F.files folder.new)) }
     ensures looked { specs.only_looks action.now ≡ true → IsUnchanged (F.records folder.old)
         (F.records folder.new) (F.files folder.old) (F.files folder.new) }

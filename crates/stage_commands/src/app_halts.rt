@@ -7,6 +7,7 @@ ghost use Rattle.stage_commands.specs.Actions.{IsUnchanged};
 ghost use Rattle.stage_commands.specs.Planned.{IsHaltPlanned};
 ghost use Rattle.stage_commands.specs.Stages.{HasHalted, PlansHalt, PlansHaltOf};
 ghost use Rattle.stage_commands.specs.Taken.{LeftBy};
+ghost use Rattle.stage_records.specs.declared.step.StepAction.TheVariants.{Halt};
 
 use crate::app_file::{app_to_change, replacement};
 use crate::steps::{number_in, owned_text};
@@ -102,8 +103,9 @@ where
         → HasHalted (D.known call.now.disk.now) call.now.manifest.now appid.now
         call.now.options.now (F.records folder.old) (F.records folder.new)
         (F.files folder.old) (F.files folder.new)) }
-    ensures stopped { IfErr result (λ stop. LeftBy stop (F.records folder.old)
-        (F.records folder.new) (F.files folder.old) (F.files folder.new)) }
+    ensures stopped { IfErr result (λ stop. LeftBy call.now.options.now (Halt appid.now) stop
+        (F.records folder.old) (F.records folder.new) (F.files folder.old)
+        (F.files folder.new)) }
     ensures unchanged { call.now.options.now.dry_run ≡ true → IsUnchanged (F.records folder.old)
         (F.records folder.new) (F.files folder.old) (F.files folder.new) }
     ensures foreseen { OnErr result (IsUnchanged (F.records folder.old) (F.records folder.new)

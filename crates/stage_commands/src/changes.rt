@@ -39,8 +39,8 @@ where
         → IsStaged (D.known call.now.disk.now) call.now.manifest.now call.now.options.now
         action.now (F.records folder.old) (F.records folder.new) (F.files folder.old)
         (F.files folder.new)) }
-    ensures stopped { IfErr result (λ stop. LeftByAction action.now stop
-        (F.records folder.old) (F.records folder.new) (F.files folder.old)
+    ensures stopped { IfErr result (λ stop. LeftByAction call.now.options.now
+        action.now stop (F.records folder.old) (F.records folder.new) (F.files folder.old)
         (F.files folder.new)) }
     ensures unchanged { call.now.options.now.dry_run ≡ true → IsUnchanged (F.records folder.old)
         (F.records folder.new) (F.files folder.old) (F.files folder.new) }
@@ -125,8 +125,8 @@ where
         (F.files folder.new)) }
     ensures unedited { OnOk result (HasNoEdits call.now.options.now action.now
         (F.records folder.old) (F.files folder.old)) }
-    ensures stopped { IfErr result (λ stop. LeftByAction action.now stop
-        (F.records folder.old) (F.records folder.new) (F.files folder.old)
+    ensures stopped { IfErr result (λ stop. LeftByAction call.now.options.now
+        action.now stop (F.records folder.old) (F.records folder.new) (F.files folder.old)
         (F.files folder.new)) }
     ensures unchanged { call.now.options.now.dry_run ≡ true → IsUnchanged (F.records folder.old)
         (F.records folder.new) (F.files folder.old) (F.files folder.new) }

@@ -7,6 +7,7 @@ ghost use Rattle.stage_commands.specs.Compared.{AreAllJudged};
 ghost use Rattle.stage_commands.specs.PutPlans.{IsPutPlan, IsUnrefused};
 ghost use Rattle.stage_commands.specs.Puts.{HasPut, PlansPut};
 ghost use Rattle.stage_commands.specs.Taken.{LeftBy};
+ghost use Rattle.stage_records.specs.declared.step.StepAction.TheVariants.{Put};
 
 use crate::comparison::compare;
 use crate::judged::judged_at;
@@ -163,8 +164,9 @@ where
         → HasPut (D.known call.now.disk.now) call.now.manifest.now manifest.now
         call.now.options.now (F.records folder.old) (F.records folder.new)
         (F.files folder.old) (F.files folder.new)) }
-    ensures stopped { IfErr result (λ stop. LeftBy stop (F.records folder.old)
-        (F.records folder.new) (F.files folder.old) (F.files folder.new)) }
+    ensures stopped { IfErr result (λ stop. LeftBy call.now.options.now (Put manifest.now) stop
+        (F.records folder.old) (F.records folder.new) (F.files folder.old)
+        (F.files folder.new)) }
     ensures unchanged { call.now.options.now.dry_run ≡ true → IsUnchanged (F.records folder.old)
         (F.records folder.new) (F.files folder.old) (F.files folder.new) }
     ensures foreseen { OnErr result (IsUnchanged (F.records folder.old) (F.records folder.new)

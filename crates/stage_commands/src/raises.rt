@@ -11,6 +11,7 @@ ghost use Rattle.stage_commands.specs.Compared.{IsAcceptedWith};
 ghost use Rattle.stage_commands.specs.Planned.{IsRaisePlanned};
 ghost use Rattle.stage_commands.specs.Stages.{HasRaised, PlansRaise, PlansRaiseOf};
 ghost use Rattle.stage_commands.specs.Taken.{LeftBy};
+ghost use Rattle.stage_records.specs.declared.step.StepAction.TheVariants.{Raise};
 ghost use Rattle.stage_folder.specs.Folders.{GivesFile};
 
 use crate::app_file::{app_to_change, replacement};
@@ -175,8 +176,9 @@ where
         → HasRaised (D.known call.now.disk.now) call.now.manifest.now appid.now buckets
         call.now.options.now (F.records folder.old) (F.records folder.new)
         (F.files folder.old) (F.files folder.new)) }
-    ensures stopped { IfErr result (λ stop. LeftBy stop (F.records folder.old)
-        (F.records folder.new) (F.files folder.old) (F.files folder.new)) }
+    ensures stopped { IfErr result (λ stop. LeftBy call.now.options.now
+        (Raise appid.now buckets) stop (F.records folder.old) (F.records folder.new)
+        (F.files folder.old) (F.files folder.new)) }
     ensures unchanged { call.now.options.now.dry_run ≡ true → IsUnchanged (F.records folder.old)
         (F.records folder.new) (F.files folder.old) (F.files folder.new) }
     ensures foreseen { OnErr result (IsUnchanged (F.records folder.old) (F.records folder.new)

@@ -9,6 +9,7 @@ ghost use Rattle.stage_commands.specs.Compared.{IsAcceptedWith};
 ghost use Rattle.stage_commands.specs.Planned.{IsResumePlanned};
 ghost use Rattle.stage_commands.specs.Resumes.{HasResumed, PlansResume};
 ghost use Rattle.stage_commands.specs.Taken.{LeftBy};
+ghost use Rattle.stage_records.specs.declared.step.StepAction.TheVariants.{Resume};
 ghost use Rattle.stage_rules.specs.InForce as in_force;
 
 use crate::app_file::app_to_change;
@@ -141,8 +142,9 @@ where
         → HasResumed (D.known call.now.disk.now) call.now.manifest.now appid.now buckets
         call.now.options.now (F.records folder.old) (F.records folder.new)
         (F.files folder.old) (F.files folder.new)) }
-    ensures stopped { IfErr result (λ stop. LeftBy stop (F.records folder.old)
-        (F.records folder.new) (F.files folder.old) (F.files folder.new)) }
+    ensures stopped { IfErr result (λ stop. LeftBy call.now.options.now
+        (Resume appid.now buckets) stop (F.records folder.old) (F.records folder.new)
+        (F.files folder.old) (F.files folder.new)) }
     ensures unchanged { call.now.options.now.dry_run ≡ true → IsUnchanged (F.records folder.old)
         (F.records folder.new) (F.files folder.old) (F.files folder.new) }
     ensures foreseen { OnErr result (IsUnchanged (F.records folder.old) (F.records folder.new)

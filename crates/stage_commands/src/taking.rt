@@ -3,7 +3,7 @@
 ghost use Rattle.std.specs.Prelude.{◌≡◌, ◌≢◌, [], IfErr, IfOk, IfSome, OnErr, OnOk, false};
 ghost use Rattle.std.specs.Prelude.{option_copied, option_map, option_to_list, true};
 ghost use Rattle.stage_commands.specs.Actions.{IsUnchanged};
-ghost use Rattle.stage_commands.specs.Taken.{IsNewNumber, IsNext, LeftBy, MayChange, Performs};
+ghost use Rattle.stage_commands.specs.Taken.{IsNewNumber, LeftBy, LeftByTake, MayChange, Performs};
 ghost use Rattle.stage_commands.specs.Taken.{RecordLeftBy, Takes};
 ghost use Rattle.stage_folder.specs.Recorded.{IsRecorded};
 ghost use Rattle.stage_folder.specs.Steps.{IsFoundBy, IsPartlyDone, done};
@@ -83,10 +83,9 @@ fn perform_step<F: StageFolder>(
     folder: &mut F,
     step: &StagingStep,
 ) -> Result<(), Stop>
-    requires { IsNext (F.records folder.old) (F.files folder.old) step.now }
     ensures done { OnOk result (Performs step.now (F.records folder.old) (F.records folder.new)
         (F.files folder.old) (F.files folder.new)) }
-    ensures stopped { IfErr result (λ stop. LeftBy stop (F.records folder.old)
+    ensures stopped { IfErr result (λ stop. LeftByTake stop step.now (F.records folder.old)
         (F.records folder.new) (F.files folder.old) (F.files folder.new)) }
 {
     if are_none(&step.files) {
@@ -102,7 +101,7 @@ fn perform_step<F: StageFolder>(
 }
 
 // The same, and says which files are replaced; for `--dry-run` it only says so.
-#[tactic(auto, using(crate::proofs::Left::unchanged_by))]
+#[tactic(auto, using(crate::proofs::Left::unchanged_take))]
 fn take<F: StageFolder>(
     alloc: Global,
     folder: &mut F,
@@ -110,10 +109,9 @@ fn take<F: StageFolder>(
     dry_run: bool,
     lines: &mut Lines,
 ) -> Result<(), Stop>
-    requires { IsNext (F.records folder.old) (F.files folder.old) step.now }
     ensures done { OnOk result (dry_run ≡ false → Performs step.now (F.records folder.old)
         (F.records folder.new) (F.files folder.old) (F.files folder.new)) }
-    ensures stopped { IfErr result (λ stop. LeftBy stop (F.records folder.old)
+    ensures stopped { IfErr result (λ stop. LeftByTake stop step.now (F.records folder.old)
         (F.records folder.new) (F.files folder.old) (F.files folder.new)) }
     ensures unchanged { dry_run ≡ true → IsUnchanged (F.records folder.old)
         (F.records folder.new) (F.files folder.old) (F.files folder.new) }
@@ -186,8 +184,9 @@ where
     ensures done { OnOk result (call.now.options.now.dry_run ≡ false → Takes
         call.now.options.now number action files.items (F.records folder.old)
         (F.records folder.new) (F.files folder.old) (F.files folder.new)) }
-    ensures stopped { IfErr result (λ stop. LeftBy stop (F.records folder.old)
-        (F.records folder.new) (F.files folder.old) (F.files folder.new)) }
+    ensures stopped { IfErr result (λ stop. LeftBy call.now.options.now action stop
+        (F.records folder.old) (F.records folder.new) (F.files folder.old)
+        (F.files folder.new)) }
     ensures unchanged { call.now.options.now.dry_run ≡ true → IsUnchanged (F.records folder.old)
         (F.records folder.new) (F.files folder.old) (F.files folder.new) }
 {
@@ -221,8 +220,9 @@ where
     ensures done { OnOk result (call.now.options.now.dry_run ≡ false → Takes
         call.now.options.now number action (option_to_list file) (F.records folder.old)
         (F.records folder.new) (F.files folder.old) (F.files folder.new)) }
-    ensures stopped { IfErr result (λ stop. LeftBy stop (F.records folder.old)
-        (F.records folder.new) (F.files folder.old) (F.files folder.new)) }
+    ensures stopped { IfErr result (λ stop. LeftBy call.now.options.now action stop
+        (F.records folder.old) (F.records folder.new) (F.files folder.old)
+        (F.files folder.new)) }
     ensures unchanged { call.now.options.now.dry_run ≡ true → IsUnchanged (F.records folder.old)
         (F.records folder.new) (F.files folder.old) (F.files folder.new) }
 {

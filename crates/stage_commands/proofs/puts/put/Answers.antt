@@ -1,4 +1,5 @@
 use Rattle.std.proofs.Common.{inr}
+use Rattle.stage_commands.proofs.Left.{left_for}
 use Rattle.stage_commands.proofs.Put.{found_changes}
 use Rattle.stage_commands.proofs.Replacing.{has_put}
 use Rattle.stage_commands.proofs.puts.put.Goals as goal
@@ -26,3 +27,8 @@ pub returns-in-Err-take_step-clause-foreseen : goal.returns-in-Err-take_step-cla
 returns-in-Err-take_step-clause-foreseen g c =
     let plan = rw c.in-Ok.field-0-is at c.in-Ok.ensures in
     inr (plan.recorded, plan.are, (c.in-Ok.field-0.files.items, plan.files))
+
+pub returns-in-Err-take_step-clause-stopped : goal.returns-in-Err-take_step-clause-stopped
+returns-in-Err-take_step-clause-stopped g c =
+    left_for c.in-Err-take_step.stop _ _ _ _ _ _ _
+    (rw c.in-Ok.field-0-is at c.in-Ok.ensures).action_is c.in-Err-take_step.ensures.stopped

@@ -1,5 +1,6 @@
-use Rattle.std.proofs.Common.{inr, rules}
-use Rattle.stage_commands.proofs.Left.{on_err_of, on_ok, on_ok_of}
+use Rattle.std.proofs.Common.{ap, inr, rules}
+use Rattle.stage_records.specs.declared.step.StepAction.TheVariants.{Raise}
+use Rattle.stage_commands.proofs.Left.{left_as, on_err_of, on_ok, on_ok_of}
 use Rattle.stage_commands.proofs.Replacing.{raise_found, raised}
 use Rattle.stage_commands.proofs.raises.raise.Goals as goal
 
@@ -33,3 +34,8 @@ returns-in-Ok-planned_file-clause-foreseen g c =
       plans.planned,
       plans.accepted,
     ))
+
+pub returns-in-Ok-planned_file-clause-stopped : goal.returns-in-Ok-planned_file-clause-stopped
+returns-in-Ok-planned_file-clause-stopped g c =
+    left_as c.take_file.result _ _ _ _ _ _ _
+    (ap (λ a. Raise a c.args.buckets) c.in-Ok-owned_text.ensures) c.take_file.ensures.stopped

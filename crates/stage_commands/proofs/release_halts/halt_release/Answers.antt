@@ -1,5 +1,5 @@
 use Rattle.std.proofs.Common.{inr}
-use Rattle.stage_commands.proofs.Left.{on_err_of, on_ok_of}
+use Rattle.stage_commands.proofs.Left.{left_as, on_err_of, on_ok_of}
 use Rattle.stage_commands.proofs.Replacing.{release_found}
 use Rattle.stage_commands.proofs.release_halts.halt_release.Goals as goal
 
@@ -14,3 +14,7 @@ returns-in-Ok-planned_file-clause-planned g c =
 pub returns-in-Ok-planned_file-clause-foreseen : goal.returns-in-Ok-planned_file-clause-foreseen
 returns-in-Ok-planned_file-clause-foreseen g c = on_err_of c.take_file.result _
     (inr (c.in-Ok-planned_file.file, c.in-Ok-planned_file.ensures))
+
+pub returns-in-Ok-planned_file-clause-stopped : goal.returns-in-Ok-planned_file-clause-stopped
+returns-in-Ok-planned_file-clause-stopped g c =
+    left_as c.take_file.result _ _ _ _ _ _ _ c.in-Ok-action_of.ensures c.take_file.ensures.stopped

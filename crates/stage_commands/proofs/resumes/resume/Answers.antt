@@ -1,5 +1,6 @@
-use Rattle.std.proofs.Common.{inr, rules}
-use Rattle.stage_commands.proofs.Left.{on_err_of, on_ok, on_ok_of}
+use Rattle.std.proofs.Common.{ap, inr, rules}
+use Rattle.stage_records.specs.declared.step.StepAction.TheVariants.{Resume}
+use Rattle.stage_commands.proofs.Left.{left_as, on_err_of, on_ok, on_ok_of}
 use Rattle.stage_commands.proofs.Replacing.{resume_found, resumed}
 use Rattle.stage_commands.proofs.resumes.resume.Goals as goal
 
@@ -31,3 +32,8 @@ returns-in-Ok-owned_text-clause-foreseen g c =
       c.in-Ok.ensures,
       (c.in-Ok-planned.file, plans, c.in-Ok-planned.ensures.accepted),
     ))
+
+pub returns-in-Ok-owned_text-clause-stopped : goal.returns-in-Ok-owned_text-clause-stopped
+returns-in-Ok-owned_text-clause-stopped g c =
+    left_as c.take_file.result _ _ _ _ _ _ _
+    (ap (λ a. Resume a c.args.buckets) c.in-Ok-owned_text.ensures) c.take_file.ensures.stopped

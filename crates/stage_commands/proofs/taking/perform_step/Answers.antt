@@ -5,7 +5,7 @@ use Rattle.stage_commands.proofs.taking.perform_step.Goals as goal
 
 pub returns-in-Err-replace_files-clause-stopped : goal.returns-in-Err-replace_files-clause-stopped
 returns-in-Err-replace_files-clause-stopped g c =
-    partly_done_by c.args.step.now _ _ _ _ _ _ c.requires c.in-Ok.ensures.recorded
+    partly_done_by c.args.step.now _ _ _ _ _ _ c.in-Ok.ensures.recorded
     c.in-Err-replace_files.ensures.records c.in-Ok.ensures.distinct c.in-Ok.ensures.files
     c.in-Err-replace_files.ensures.stopped _ c.in-Err-replace_files.ensures.says
 

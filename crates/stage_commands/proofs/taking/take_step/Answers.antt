@@ -1,7 +1,9 @@
-use Rattle.stage_commands.proofs.Left.{next_step}
+use Rattle.stage_commands.proofs.Left.{left_taken, next_step}
 use Rattle.stage_commands.proofs.taking.take_step.Goals as goal
 
-pub take-taken-requires : goal.take-taken-requires
-take-taken-requires g c = let is = c.in-Ok.ensures in
-    next_step _ _ c.args.number c.args.files.items c.in-Ok.step c.requires.is_new c.requires.found
-    is.number is.files is.not_undone
+pub returns-in-Err-taken-clause-stopped : goal.returns-in-Err-taken-clause-stopped
+returns-in-Err-taken-clause-stopped g c = let is = c.in-Ok.ensures in
+    left_taken _ _ _ c.in-Ok.step _ _ _ _
+    (next_step _ _ _ _ c.args.number c.args.files.items c.in-Ok.step c.requires.is_new
+    c.requires.found is.number is.action is.user is.because is.files is.not_undone)
+    c.in-Err-taken.ensures.stopped
