@@ -1,5 +1,5 @@
 -- Each file that a step replaces gets other bytes than it had.
-use Rattle.std.proofs.Common.{◌≡◌, ◌∙◌, ap, subst, sym, ℕ, List, [], ◌∷◌}
+use Rattle.std.proofs.Common.{◌≡◌, ◌∙◌, ap, subst, sym, ℕ, List, []}
 use Rattle.std.proofs.Common.{Bool, true, false, not, true≢false}
 use Rattle.std.specs.Prelude.{All, Option, Some, None, filter, option_to_list}
 use Rattle.std.proofs.lemmas.List.Elements.{All-cons, All-nil, filter_passes}
