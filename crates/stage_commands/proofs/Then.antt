@@ -23,7 +23,6 @@ use Rattle.stage_rules.specs.InForce.{HasOneMore, app_of_any_halt, is_named}
 use Rattle.stage_rules.specs.Lifting.{AreNamed, HasAppOf, IsLiftNamed, LiftsNothing}
 use Rattle.stage_rules.specs.Lifting.{StaysHalted, action_in_force}
 use Rattle.stage_commands.specs.Backs.{AreNamedByUndoing, LiftsNoneByUndoing, UndoingLiftsNone}
-use Rattle.stage_commands.specs.Backs.{with_all_apps}
 use Rattle.stage_commands.specs.Befores.{GivesBefore, RefusesBefore, WasGathered}
 use Rattle.stage_servers.specs.Gathered.{IsGathered, precedes_files}
 use Rattle.stage_servers.specs.Replaced.{file_named}
@@ -103,8 +102,7 @@ none_by_undoing steps step None before named has none =
 
 pub undoing_lifts_none : (known : KnownFiles) (current : List ℕ) (steps : List StagingStep)
     (step : StagingStep) (present before : Option CollectedManifest) (named : List (List ℕ))
-    → AreNamedByUndoing steps step present (with_all_apps before) named
-    → IsGathered known current present
+    → AreNamedByUndoing steps step present before named → IsGathered known current present
     → WasGathered known current step.files before → named ≡ []
     → UndoingLiftsNone known current steps step
 undoing_lifts_none known current steps step present before named are gathered was none = record {
@@ -112,7 +110,7 @@ undoing_lifts_none known current steps step present before named are gathered wa
   gathered = gathered;
   before = before;
   was_gathered = was;
-  lifts_none = none_by_undoing steps step present (with_all_apps before) named are none;
+  lifts_none = none_by_undoing steps step present before named are none;
 }
 
 -- ---- the step's own halt

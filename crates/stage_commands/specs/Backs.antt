@@ -1,6 +1,6 @@
 -- What `back` does to the files of a folder, and what it doesn't undo.
-use Rattle.std.specs.Prelude.{◌≡◌, ◌==◌, ℕ, List, Bool, false, Option, Some, None, IfSome}
-use Rattle.std.specs.Prelude.{if◌then◌else◌, option_map}
+use Rattle.std.specs.Prelude.{◌≡◌, ℕ, List, Bool, false, Option, Some, None, IfSome}
+use Rattle.std.specs.Prelude.{option_map}
 use Rattle.bounded_files.specs.Files.{KnownFiles}
 use Rattle.load.specs.declared.opened.CollectedManifest.{CollectedManifest}
 use Rattle.stage_folder.specs.Folders.{KnownFolder, KnownRecords}
@@ -12,11 +12,6 @@ use Rattle.stage_rules.specs.Lifting.{AreNamed, HasAppOf, LiftsNothing}
 use Rattle.stage_commands.specs.Befores.{WasGathered}
 use Rattle.stage_commands.specs.Taken.{IsLast, as_undone}
 use Rattle.stage_servers.specs.Gathered.{IsGathered}
-
--- a gathered manifest with all its apps; none if the files of some apps weren't read
-abbrev pub with_all_apps : Option CollectedManifest → Option CollectedManifest
-with_all_apps None = None
-with_all_apps (Some manifest) = if manifest.sources.unread == 0 then Some manifest else None
 
 -- undoing a step lifts no halt; if a manifest can't be gathered, the step isn't a halt
 abbrev pub LiftsNoneByUndoing : List StagingStep → StagingStep
@@ -34,14 +29,14 @@ AreNamedByUndoing steps step (Some present) (Some before) named =
 AreNamedByUndoing steps step present before named = HasAppOf named step.action
 
 -- undoing a step lifts no halt of these steps, by the manifests in place and before it, as far as
--- that is known; one before it that lacks apps counts as one that can't be gathered
+-- that is known
 pub record UndoingLiftsNone (known : KnownFiles) (current : List ℕ) (steps : List StagingStep)
     (step : StagingStep) : Type 0 where
   pub present : Option CollectedManifest
   pub gathered : IsGathered known current present
   pub before : Option CollectedManifest
   pub was_gathered : WasGathered known current step.files before
-  pub lifts_none : LiftsNoneByUndoing steps step present (with_all_apps before)
+  pub lifts_none : LiftsNoneByUndoing steps step present before
 
 -- each file of a step is as the step left it
 abbrev pub IsAsLeft : KnownFolder → StagingStep → Type 0

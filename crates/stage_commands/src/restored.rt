@@ -1,9 +1,7 @@
 //! What changes if a step is undone: the manifest in place, compared with the one before the step;
 //! and which halts that lifts.
 
-ghost use Rattle.std.specs.Prelude.{◌≡◌, IfOk, IfSome, OnOk, false, map, option_copied};
-ghost use Rattle.std.specs.Prelude.{string_bytes};
-ghost use Rattle.stage_commands.specs.Backs as specs;
+ghost use Rattle.std.specs.Prelude.{◌≡◌, IfOk, IfSome, OnOk, false, map, string_bytes};
 ghost use Rattle.stage_commands.specs.Backs.{AreNamedByUndoing, UndoingLiftsNone};
 ghost use Rattle.stage_commands.specs.Compared.{AreAllJudged};
 ghost use Rattle.stage_rules.specs.Lifting.{HasAppOf};
@@ -42,25 +40,8 @@ fn own_app(alloc: Global, action: &StepAction) -> Result<Vec<String>, AllocError
     }
 }
 
-// A gathered manifest, unless the files of some of its apps weren't read.
-fn with_all_apps(manifest: &Option<CollectedManifest>) -> Option<&CollectedManifest>
-    ensures { option_copied result ≡ specs.with_all_apps manifest.now }
-{
-    match manifest {
-        Some(manifest) => {
-            if manifest.sources.unread == 0 {
-                Some(manifest)
-            } else {
-                None
-            }
-        }
-        None => None,
-    }
-}
-
-// The apps of the halts in force that undoing a step lifts. If a manifest can't be gathered, or the
-// one before the step lacks apps, so that this isn't known, the step's own halt is taken to be
-// lifted.
+// The apps of the halts in force that undoing a step lifts. If a manifest can't be gathered, so
+// that this isn't known, the step's own halt is taken to be lifted.
 fn lifted_by_undoing(
     alloc: Global,
     steps: &[StagingStep],
@@ -68,10 +49,10 @@ fn lifted_by_undoing(
     present: &Option<CollectedManifest>,
     before: &Option<CollectedManifest>,
 ) -> Result<Vec<String>, AllocError>
-    ensures { IfOk result (λ named. AreNamedByUndoing steps.now step.now present.now
-        (specs.with_all_apps before.now) (map string_bytes named.items)) }
+    ensures { IfOk result (λ named. AreNamedByUndoing steps.now step.now present.now before.now
+        (map string_bytes named.items)) }
 {
-    match (present, with_all_apps(before)) {
+    match (present, before) {
         (Some(present), Some(before)) => {
             lifted_apps(alloc, steps, &present.sources.apps, &before.sources.apps)
         }
