@@ -13,7 +13,8 @@ use Rattle.stage_records.specs.declared.step.StepAction.TheVariants.{Halt, HaltR
 use Rattle.stage_records.specs.declared.step.StepAction.TheVariants.{Resume}
 use Rattle.stage_servers.specs.declared.options.StageOptions.{StageOptions}
 use Rattle.stage_commands.specs.Apps.{Replaces, ReplacesBy}
-use Rattle.stage_commands.specs.Backs.{HasGoneBack, IsAsLeft, PlansBack, UndoingLiftsNone, Undoes}
+use Rattle.stage_commands.specs.Backs.{HasGoneBack, IsRestorable, PlansBack, UndoingLiftsNone}
+use Rattle.stage_commands.specs.Backs.{Undoes}
 use Rattle.stage_commands.specs.Compared.{IsAcceptedWith}
 use Rattle.stage_commands.specs.Puts.{HasPut}
 use Rattle.stage_commands.specs.PutPlans.{IsPutPlan}
@@ -203,17 +204,17 @@ has_put laws known current manifest options old_records new_records old new plan
     }
 
 pub last_unedited : (files : KnownFolder) (steps : List StagingStep) (step : StagingStep)
-    → Some step ≡ last_step steps → IfSome (last_step steps) (IsAsLeft files)
-    → IsAsLeft files step
+    → Some step ≡ last_step steps → IfSome (last_step steps) (IsRestorable files)
+    → IsRestorable files step
 last_unedited files steps step is unedited =
-    subst (λ o. IfSome o (IsAsLeft files)) (sym is) unedited
+    subst (λ o. IfSome o (IsRestorable files)) (sym is) unedited
 
 pub plans_back : (known : KnownFiles) (current : List ℕ) (anyway : Bool) (records : KnownRecords)
     (files : KnownFolder) (recorded : RecordedSteps) (step : StagingStep)
     → AreAllRead records recorded → Some step ≡ last_step recorded.steps.items
     → (anyway ≡ false → IfSome (last_step recorded.steps.items)
     (UndoingLiftsNone known current recorded.steps.items))
-    → IsAsLeft files step
+    → IsRestorable files step
     → PlansBack known current anyway records files
 plans_back known current anyway records files recorded step are last lifts unedited = record {
   step = step;
@@ -229,7 +230,7 @@ pub gone_back : (known : KnownFiles) (current : List ℕ) (anyway : Bool)
     → Some step ≡ last_step recorded.steps.items
     → (anyway ≡ false → IfSome (last_step recorded.steps.items)
     (UndoingLiftsNone known current recorded.steps.items))
-    → IsAsLeft old step
+    → IsRestorable old step
     → Undoes step old_records new_records old new
     → HasGoneBack known current anyway old_records new_records old new
 unfolding plans_back

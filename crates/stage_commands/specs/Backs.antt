@@ -38,9 +38,9 @@ pub record UndoingLiftsNone (known : KnownFiles) (current : List ℕ) (steps : L
   pub was_gathered : WasGathered known current step.files before
   pub lifts_none : LiftsNoneByUndoing steps step present before
 
--- each file of a step is as the step left it
-abbrev pub IsAsLeft : KnownFolder → StagingStep → Type 0
-IsAsLeft files step = IfSome files (λ folder. edited_place step.files folder ≡ None)
+-- no file of a step was edited: each is as the step left it, or as it found it
+abbrev pub IsRestorable : KnownFolder → StagingStep → Type 0
+IsRestorable files step = IfSome files (λ folder. edited_place step.files folder ≡ None)
 
 -- each file of a step is as it found it, all others are as before, and its record says that it is
 -- undone
@@ -57,7 +57,7 @@ module _ (known : KnownFiles) (current : List ℕ) (anyway : Bool) where
     pub last : IsLast records step
     pub lifts_none : anyway ≡ false
         → UndoingLiftsNone known current last.recorded.steps.items step
-    pub unedited : IsAsLeft files step
+    pub unedited : IsRestorable files step
 
   -- it is undone
   pub record HasGoneBack (old_records new_records : KnownRecords) (old new : KnownFolder)

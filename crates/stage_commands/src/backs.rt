@@ -2,7 +2,8 @@
 
 ghost use Rattle.std.specs.Prelude.{◌≡◌, ◌⊎◌, IfErr, IfSome, OnErr, OnOk, false, true};
 ghost use Rattle.stage_commands.specs.Actions.{IsUnchanged};
-ghost use Rattle.stage_commands.specs.Backs.{HasGoneBack, IsAsLeft, PlansBack, UndoingLiftsNone};
+ghost use Rattle.stage_commands.specs.Backs.{HasGoneBack, IsRestorable, PlansBack};
+ghost use Rattle.stage_commands.specs.Backs.{UndoingLiftsNone};
 ghost use Rattle.stage_commands.specs.Taken.{LeftByBack};
 ghost use Rattle.stage_records.specs.Steps.{last_step};
 
@@ -44,7 +45,7 @@ where
         → IfSome (last_step steps.now) (UndoingLiftsNone (D.known call.now.disk.now)
         call.now.manifest.now steps.now)) }
     ensures unedited { OnOk result
-        (IfSome (last_step steps.now) (IsAsLeft (F.files folder.now))) }
+        (IfSome (last_step steps.now) (IsRestorable (F.files folder.now))) }
 {
     match last_step(steps) {
         Some(step) => match stop_at_edit(call.rt.alloc(), folder, step) {

@@ -1,6 +1,6 @@
 use Rattle.std.proofs.Common.{subst}
 use Rattle.std.specs.Prelude.{IfSome}
-use Rattle.stage_commands.specs.Backs.{IsAsLeft, UndoingLiftsNone}
+use Rattle.stage_commands.specs.Backs.{IsRestorable, UndoingLiftsNone}
 use Rattle.stage_commands.proofs.Left.{on_ok, on_ok_of}
 use Rattle.stage_commands.proofs.backs.compare_last.Goals as goal
 
@@ -12,5 +12,6 @@ returns-in-Ok-clause-lifts_none g c = on_ok c.compare_restored.result _ _
 
 pub returns-in-Ok-clause-unedited : goal.returns-in-Ok-clause-unedited
 returns-in-Ok-clause-unedited g c = on_ok_of c.compare_restored.result _
-    (subst (λ o. IfSome o (IsAsLeft (g.F.StageFolder.files c.args.folder.now))) c.in-Some.ensures
+    (subst (λ o. IfSome o (IsRestorable (g.F.StageFolder.files c.args.folder.now)))
+    c.in-Some.ensures
     c.in-Ok.ensures)
