@@ -1,25 +1,20 @@
 -- What a stop leaves, from what each part leaves.
 use Rattle.std.proofs.Common.{◌≡◌, ◌≢◌, ◌∙◌, ap, refl, subst, sym, ℕ, List, [], ◌∷◌, true}
 use Rattle.std.proofs.Common.{false, zero, suc, ◌⊎◌, inl, inr}
-use Rattle.std.specs.Prelude.{Some, None, Result, Ok, Err, IfErr, IfOk, OnErr, OnOk, IfSome}
+use Rattle.std.specs.Prelude.{All, Some, None, Result, Ok, Err, IfErr, IfOk, OnOk, IfSome}
 use Rattle.std.specs.Prelude.{option_copied, option_map}
-use Rattle.stage_records.specs.Steps.{ReplacedFile, StagingStep, last_step}
-use Rattle.stage_records.specs.declared.action.StageAction.{StageAction}
-use Rattle.stage_records.specs.declared.action.StageAction.TheVariants as action
+use Rattle.stage_records.specs.Steps.{ReplacedFile, StagingStep}
 use Rattle.stage_records.specs.declared.step.StepAction.{StepAction}
 use Rattle.stage_folder.specs.Folders.{FollowsRecord, IsFree, KnownFolder, KnownRecords}
 use Rattle.stage_folder.specs.Recorded.{AreRecordsAfter, IsRecorded, MayBeRecorded}
 use Rattle.stage_folder.specs.Steps.{IsFoundBy, IsPartlyDone, IsPartlyUndone, done}
-use Rattle.stage_folder.specs.Steps.{has_distinct_names, undone}
+use Rattle.stage_folder.specs.Steps.{has_distinct_names, is_change, undone}
 use Rattle.stage_folder.specs.declared.folder_fault.RecordFault.{RecordFault}
 use Rattle.stage_folder.specs.declared.folder_fault.RecordFault.TheVariants as fault
-use Rattle.stage_folder.specs.declared.records.RecordedSteps.{RecordedSteps}
-use Rattle.stage_commands.specs.Actions.{LeftByAction}
 use Rattle.stage_commands.specs.Backs.{Undoes}
-use Rattle.stage_commands.specs.Taken.{IsLast, IsLeftTaken, IsLeftUndone, IsNewNumber, IsNext}
-use Rattle.stage_commands.specs.Taken.{IsTrueAfter, LeftBy, LeftByBack, LeftByTake, LeftByUndo}
+use Rattle.stage_commands.specs.Taken.{IsLeftUndone, IsNewNumber, IsNext, IsUnchanged}
+use Rattle.stage_commands.specs.Taken.{IsTrueAfter, LeftBy, LeftByFiles, LeftByTake, LeftByUndo}
 use Rattle.stage_commands.specs.Taken.{MayChange, Performs, RecordLeftBy, Takes, as_undone}
-use Rattle.stage_servers.specs.Whole.{AreAllRead}
 use Rattle.stage_servers.specs.declared.options.StageOptions.{StageOptions}
 use Rattle.stage_servers.specs.declared.outcome.Stop.{Stop}
 use Rattle.stage_servers.specs.declared.outcome.Stop.TheVariants as stop
@@ -30,18 +25,9 @@ same (Some folder) = refl
 
 -- ---- before a file is changed
 
-pub unchanged_by : (options : StageOptions) (did : StepAction) (why : Stop)
-    (old_records new_records : KnownRecords) (old new : KnownFolder) → new_records ≡ old_records
-    → new ≡ old → LeftBy options did why old_records new_records old new
-unchanged_by options did why old_records new_records old new same e = inl (same, e)
-
-pub unchanged_take : (why : Stop) (step : StagingStep) (old_records new_records : KnownRecords)
-    (old new : KnownFolder) → new_records ≡ old_records → new ≡ old
-    → LeftByTake why step old_records new_records old new
-unchanged_take (stop.Refused reason) step old_records new_records old new same e = (same, e)
-unchanged_take (stop.Failed reason) step old_records new_records old new same e =
-    inl (inl same, e)
-unchanged_take stop.Memory step old_records new_records old new same e = inl (inl same, e)
+pub unchanged : (A : Type 0) (old_records new_records : KnownRecords) (old new : KnownFolder)
+    → new_records ≡ old_records → new ≡ old → IsUnchanged old_records new_records old new ⊎ A
+unchanged A old_records new_records old new same e = inl (e, same)
 
 -- ---- a step
 
@@ -51,41 +37,65 @@ new_number records number free follows = record { free = free; follows = follows
 
 pub next_step : (options : StageOptions) (did : StepAction) (records : KnownRecords)
     (folder : KnownFolder) (number : ℕ) (files : List ReplacedFile) (step : StagingStep)
-    → IsNewNumber records number → IfSome folder (IsFoundBy files) → step.number ≡ number
+    → IsNewNumber records number → IfSome folder (IsFoundBy files)
+    → All (λ file. is_change file ≡ true) files → step.number ≡ number
     → step.action ≡ did → step.user ≡ option_copied options.user
     → step.because ≡ option_copied options.because → step.files ≡ files
-    → step.is_undone ≡ false → IsNext options did records folder step
-next_step options did records folder number files step fresh found numbered acts by why has
+    → step.is_undone ≡ false → IsNext options did files records folder step
+next_step options did records folder number files step fresh found changes numbered acts by why has
     not_yet = record {
       is_new = subst (IsNewNumber records) (sym numbered) fresh;
       action_is = acts;
       user_is = by;
       because_is = why;
-      found = subst (λ fs. IfSome folder (IsFoundBy fs)) (sym has) found;
+      files_are = has;
+      found = found;
+      changes = changes;
       not_undone = not_yet;
     }
 
-pub left_taken : (options : StageOptions) (did : StepAction) (why : Stop) (step : StagingStep)
-    (old_records new_records : KnownRecords) (old new : KnownFolder)
-    → IsNext options did old_records old step
+pub left_taken : (options : StageOptions) (did : StepAction) (files : List ReplacedFile)
+    (why : Stop) (step : StagingStep) (old_records new_records : KnownRecords)
+    (old new : KnownFolder) → IsNext options did files old_records old step
     → LeftByTake why step old_records new_records old new
-    → LeftBy options did why old_records new_records old new
-left_taken options did why step old_records new_records old new next left =
+    → LeftByFiles options did files why old_records new_records old new
+left_taken options did files why step old_records new_records old new next left =
     inr (step, next, left)
 
-pub left_for : (why : Stop) (options : StageOptions) (did wanted : StepAction)
-    (old_records new_records : KnownRecords) (old new : KnownFolder) → did ≡ wanted
-    → LeftBy options did why old_records new_records old new
-    → LeftBy options wanted why old_records new_records old new
-left_for why options did wanted old_records new_records old new is left =
-    subst (λ a. LeftBy options a why old_records new_records old new) is left
+-- what a stop leaves of the planned files
+pub left_for : (IsPlan : List ReplacedFile → Type 0) (why : Stop) (options : StageOptions)
+    (did wanted : StepAction) (files : List ReplacedFile) (old_records new_records : KnownRecords)
+    (old new : KnownFolder) → did ≡ wanted → IsPlan files
+    → LeftByFiles options did files why old_records new_records old new
+    → LeftBy IsPlan options wanted why old_records new_records old new
+left_for IsPlan why options did wanted files old_records new_records old new is plan left = inr (
+  files,
+  plan,
+  subst (λ a. LeftByFiles options a files why old_records new_records old new) is left,
+)
 
-pub left_as : (r : Result (Unit {0}) Stop) (options : StageOptions) (did wanted : StepAction)
-    (old_records new_records : KnownRecords) (old new : KnownFolder) → did ≡ wanted
-    → IfErr r (λ why. LeftBy options did why old_records new_records old new)
-    → IfErr r (λ why. LeftBy options wanted why old_records new_records old new)
-left_as r options did wanted old_records new_records old new is left =
-    subst (λ a. IfErr r (λ why. LeftBy options a why old_records new_records old new)) is left
+pub left_as : (IsPlan : List ReplacedFile → Type 0) (r : Result (Unit {0}) Stop)
+    (options : StageOptions) (did wanted : StepAction) (files : List ReplacedFile)
+    (old_records new_records : KnownRecords) (old new : KnownFolder) → did ≡ wanted → IsPlan files
+    → IfErr r (λ why. LeftByFiles options did files why old_records new_records old new)
+    → IfErr r (λ why. LeftBy IsPlan options wanted why old_records new_records old new)
+left_as IsPlan (Ok done) options did wanted files old_records new_records old new is plan left = tt
+left_as IsPlan (Err why) options did wanted files old_records new_records old new is plan left =
+    left_for IsPlan why options did wanted files old_records new_records old new is plan left
+
+pub files_left_as : (r : Result (Unit {0}) Stop) (options : StageOptions) (did : StepAction)
+    (files wanted : List ReplacedFile) (old_records new_records : KnownRecords)
+    (old new : KnownFolder) → files ≡ wanted
+    → IfErr r (λ why. LeftByFiles options did files why old_records new_records old new)
+    → IfErr r (λ why. LeftByFiles options did wanted why old_records new_records old new)
+files_left_as r options did files wanted old_records new_records old new is left =
+    subst (λ fs. IfErr r (λ why. LeftByFiles options did fs why old_records new_records old new)) is
+    left
+
+pub changing_files : (files wanted : List ReplacedFile) → files ≡ wanted
+    → All (λ file. is_change file ≡ true) wanted → All (λ file. is_change file ≡ true) files
+changing_files files wanted same changes =
+    subst (All (λ file. is_change file ≡ true)) (sym same) changes
 
 pub found_files : (folder : KnownFolder) (files wanted : List ReplacedFile) → files ≡ wanted
     → IfSome folder (IsFoundBy wanted) → IfSome folder (IsFoundBy files)
@@ -93,11 +103,14 @@ found_files folder files wanted same found =
     subst (λ fs. IfSome folder (IsFoundBy fs)) (sym same) found
 
 pub not_recorded : (why : Stop) (step : StagingStep) (old_records new_records : KnownRecords)
-    (old new : KnownFolder) → RecordLeftBy why step old_records new_records → new ≡ old
-    → LeftByTake why step old_records new_records old new
-not_recorded (stop.Refused reason) step old_records new_records old new left e = (left, e)
-not_recorded (stop.Failed reason) step old_records new_records old new left e = inl (left, e)
-not_recorded stop.Memory step old_records new_records old new left e = inl (left, e)
+    (old new : KnownFolder) → step.files ≢ [] → RecordLeftBy why step old_records new_records
+    → new ≡ old → LeftByTake why step old_records new_records old new
+not_recorded (stop.Refused reason) step old_records new_records old new some left e =
+    inl (e, left)
+not_recorded (stop.Failed reason) step old_records new_records old new some left e =
+    inr (tt, (some, inl (left, e)))
+not_recorded stop.Memory step old_records new_records old new some left e =
+    inr (tt, (some, inl (left, e)))
 
 pub may_be : (why : RecordFault) (step : StagingStep) (old new : KnownRecords)
     → AreRecordsAfter why step old new → MayBeRecorded step old new
@@ -129,18 +142,19 @@ module _ (step : StagingStep) (old_records mid new_records : KnownRecords)
     (old between new : KnownFolder) (is : IsRecorded step old_records mid)
     (same : new_records ≡ mid) (distinct : has_distinct_names step.files ≡ true)
     (e : between ≡ old) (part : IsPartlyDone step.files between new) where
-  left_partly : IsLeftTaken step old_records new_records old new
-  left_partly = inr (
-    subst (IsRecorded step old_records) (sym same) is,
-    distinct,
-    subst (λ known. IsPartlyDone step.files known new) e part,
-  )
-
-  pub partly_done_by : (why : Stop) → MayChange why
+  pub partly_done_by : (why : Stop) → step.files ≢ [] → MayChange why
       → LeftByTake why step old_records new_records old new
-  partly_done_by (stop.Refused reason) may = absurd may
-  partly_done_by (stop.Failed reason) may = left_partly
-  partly_done_by stop.Memory may = left_partly
+  partly_done_by why some may = inr (
+    may,
+    (
+      some,
+      inr (
+        subst (IsRecorded step old_records) (sym same) is,
+        distinct,
+        subst (λ known. IsPartlyDone step.files known new) e part,
+      ),
+    ),
+  )
 
 pub performs : (step : StagingStep) (old_records mid new_records : KnownRecords)
     (old between new : KnownFolder) → step.files ≢ []
@@ -248,47 +262,6 @@ undoes step old_records mid_records new_records old mid new all same noted e = r
   recorded = subst (λ r. IsRecorded (as_undone step) r new_records) same noted;
 }
 
-pub unchanged_back : (why : Stop) (old_records new_records : KnownRecords)
-    (old new : KnownFolder) → new_records ≡ old_records → new ≡ old
-    → LeftByBack why old_records new_records old new
-unchanged_back why old_records new_records old new same e = inl (same, e)
-
-pub left_undone : (why : Stop) (step : StagingStep) (old_records new_records : KnownRecords)
-    (old new : KnownFolder) → IsLast old_records step
-    → LeftByUndo why step old_records new_records old new
-    → LeftByBack why old_records new_records old new
-left_undone why step old_records new_records old new last left = inr (step, last, left)
-
-pub last_of : (records : KnownRecords) (recorded : RecordedSteps) (step : StagingStep)
-    → AreAllRead records recorded → last_step recorded.steps.items ≡ Some step
-    → IsLast records step
-last_of records recorded step are is = record { recorded = recorded; are = are; last = is }
-
--- ---- any action
-
-pub unchanged_action : (options : StageOptions) (did : StageAction) (why : Stop)
-    (old_records new_records : KnownRecords) (old new : KnownFolder) → new_records ≡ old_records
-    → new ≡ old → LeftByAction options did why old_records new_records old new
-unchanged_action options (action.Halt appid) why old_records new_records old new same e =
-    inl (same, e)
-unchanged_action options (action.HaltRelease appid version) why old_records new_records old new
-    same e = inl (same, e)
-unchanged_action options (action.Raise appid buckets) why old_records new_records old new same e =
-    inl (same, e)
-unchanged_action options action.Back why old_records new_records old new same e = inl (same, e)
-unchanged_action options (action.Put next) why old_records new_records old new same e =
-    inl (same, e)
-unchanged_action options (action.Resume appid buckets) why old_records new_records old new same e =
-    inl (same, e)
-unchanged_action options action.Status why old_records new_records old new same e = (e, same)
-unchanged_action options (action.History appid) why old_records new_records old new same e =
-    (e, same)
-
--- nothing has changed, or of what was planned this also holds
-pub planned_with : (A B C : Type 0) → C → A ⊎ B → A ⊎ (B × C)
-planned_with A B C is (inl same) = inl same
-planned_with A B C is (inr planned) = inr (planned, is)
-
 -- ---- results
 
 pub on_ok : {T E : Type 0} (r : Result T E) (P Q : Type 0) → (P → Q) → OnOk r P → OnOk r Q
@@ -298,10 +271,6 @@ on_ok (Err e) P Q f p = tt
 pub on_ok_of : {T E : Type 0} (r : Result T E) (P : Type 0) → P → OnOk r P
 on_ok_of (Ok x) P p = p
 on_ok_of (Err e) P p = tt
-
-pub on_err_of : {T E : Type 0} (r : Result T E) (P : Type 0) → P → OnErr r P
-on_err_of (Ok x) P p = tt
-on_err_of (Err e) P p = p
 
 pub if_ok_of : {T E : Type 0} (r : Result T E) (P : T → Type 0) → ((x : T) → P x) → IfOk r P
 if_ok_of (Ok x) P p = p x

@@ -13,16 +13,17 @@ use Rattle.stage_records.specs.declared.step.StepAction.TheVariants.{Halt, HaltR
 use Rattle.stage_records.specs.declared.step.StepAction.TheVariants.{Resume}
 use Rattle.stage_servers.specs.declared.options.StageOptions.{StageOptions}
 use Rattle.stage_commands.specs.Apps.{Replaces, ReplacesBy}
-use Rattle.stage_commands.specs.Backs.{HasGoneBack, IsRestorable, PlansBack, UndoingLiftsNone}
-use Rattle.stage_commands.specs.Backs.{Undoes}
+use Rattle.stage_commands.specs.Backs.{HasGoneBack, IsRestorable, LeftByBack, PlansBack}
+use Rattle.stage_commands.specs.Backs.{Undoes, UndoingLiftsNone}
 use Rattle.stage_commands.specs.Compared.{IsAcceptedWith}
 use Rattle.stage_commands.specs.Puts.{HasPut}
 use Rattle.stage_commands.specs.PutPlans.{IsPutPlan}
 use Rattle.stage_commands.specs.ReleaseHalts.{HasHaltedRelease, PlansReleaseHalt}
 use Rattle.stage_commands.specs.Resumes.{HasResumed, PlansResume}
 use Rattle.stage_commands.specs.Stages.{HasHalted, HasRaised, PlansHalt, PlansRaise}
-use Rattle.stage_commands.specs.Taken.{IsNewNumber, IsTaken, Takes}
+use Rattle.stage_commands.specs.Taken.{IsNewNumber, IsTaken, LeftByUndo, Takes}
 use Rattle.stage_servers.specs.Whole.{AreAllRead, HasOnlySteps}
+use Rattle.stage_servers.specs.declared.outcome.Stop.{Stop}
 use Rattle.stage_commands.specs.declared.puts.PutPlan.{PutPlan}
 use Rattle.stage_commands.proofs.Changing.{changes_all, changes_file}
 use Rattle.stage_commands.proofs.Put.{StepsLeave, found_changes, in_place}
@@ -203,7 +204,7 @@ has_put laws known current manifest options old_records new_records old new plan
           (done_by _ _ _ _ _ _ old new takes);
     }
 
-pub last_unedited : (files : KnownFolder) (steps : List StagingStep) (step : StagingStep)
+last_unedited : (files : KnownFolder) (steps : List StagingStep) (step : StagingStep)
     → Some step ≡ last_step steps → IfSome (last_step steps) (IsRestorable files)
     → IsRestorable files step
 last_unedited files steps step is unedited =
@@ -239,3 +240,20 @@ gone_back known current anyway old_records new_records old new recorded step are
       plan = plans_back known current anyway old_records old recorded step are last lifts unedited;
       undoes = undoes;
     }
+
+pub left_undone : (known : KnownFiles) (current : List ℕ) (anyway : Bool) (why : Stop)
+    (old_records new_records : KnownRecords) (old new : KnownFolder) (recorded : RecordedSteps)
+    (step : StagingStep) → AreAllRead old_records recorded
+    → Some step ≡ last_step recorded.steps.items
+    → (anyway ≡ false → IfSome (last_step recorded.steps.items)
+    (UndoingLiftsNone known current recorded.steps.items))
+    → IfSome (last_step recorded.steps.items) (IsRestorable old)
+    → LeftByUndo why step old_records new_records old new
+    → LeftByBack known current anyway why old_records new_records old new
+unfolding plans_back
+left_undone known current anyway why old_records new_records old new recorded step are last lifts
+    unedited left = inr (
+      plans_back known current anyway old_records old recorded step are last lifts
+          (last_unedited old recorded.steps.items step last unedited),
+      left,
+    )

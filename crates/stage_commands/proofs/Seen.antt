@@ -11,8 +11,9 @@ use Rattle.stage_servers.specs.Unedited.{IsUnedited, compares_files}
 use Rattle.stage_servers.specs.Whole.{IsSeenWhole, only_looks}
 use Rattle.stage_servers.specs.declared.options.StageOptions.{StageOptions}
 use Rattle.stage_servers.specs.declared.serves.Surveyed.{Surveyed}
-use Rattle.stage_commands.specs.Actions.{HasNoEdits, IsStaged, IsUnchanged}
+use Rattle.stage_commands.specs.Actions.{HasNoEdits, IsStaged}
 use Rattle.stage_commands.specs.Planned.{IsPlanned}
+use Rattle.stage_commands.specs.Taken.{IsUnchanged}
 
 pub planned : (known : KnownFiles) (manifest : List ℕ) (options : StageOptions)
     (records : KnownRecords) (files : KnownFolder) (did : StageAction) → only_looks did ≡ true

@@ -1,5 +1,5 @@
 -- What an action of `stage` does to the files and records of a folder.
-use Rattle.std.specs.Prelude.{◌≡◌, ◌⊎◌, List, [], ℕ, true}
+use Rattle.std.specs.Prelude.{◌≡◌, List, [], ℕ, true}
 use Rattle.bounded_files.specs.Files.{KnownFiles}
 use Rattle.stage_folder.specs.Folders.{KnownFolder, KnownRecords}
 use Rattle.stage_commands.specs.Backs.{HasGoneBack}
@@ -7,37 +7,12 @@ use Rattle.stage_commands.specs.Puts.{HasPut}
 use Rattle.stage_commands.specs.ReleaseHalts.{HasHaltedRelease}
 use Rattle.stage_commands.specs.Stages.{HasHalted, HasRaised}
 use Rattle.stage_commands.specs.Resumes.{HasResumed}
-use Rattle.stage_commands.specs.Taken.{LeftBy, LeftByBack}
+use Rattle.stage_commands.specs.Taken.{IsUnchanged}
 use Rattle.stage_records.specs.declared.action.StageAction.{StageAction}
 use Rattle.stage_records.specs.declared.action.StageAction.TheVariants as action
-use Rattle.stage_records.specs.declared.step.StepAction.TheVariants as taken
 use Rattle.stage_servers.specs.Drift.{is_back}
 use Rattle.stage_servers.specs.Unedited.{IsUnedited, compares_files}
 use Rattle.stage_servers.specs.declared.options.StageOptions.{StageOptions}
-use Rattle.stage_servers.specs.declared.outcome.Stop.{Stop}
-
--- nothing has changed
-abbrev pub IsUnchanged : (old_records new_records : KnownRecords) → (old new : KnownFolder)
-    → Type 0
-IsUnchanged old_records new_records old new = (new ≡ old) × (new_records ≡ old_records)
-
--- what a stop of an action leaves: `back` takes no step, and what only looks changes nothing
-abbrev pub LeftByAction : StageOptions → StageAction → Stop
-    → (old_records new_records : KnownRecords) → (old new : KnownFolder) → Type 0
-LeftByAction options (action.Halt appid) stop old_records new_records old new =
-    LeftBy options (taken.Halt appid.now) stop old_records new_records old new
-LeftByAction options (action.HaltRelease appid version) stop old_records new_records old new =
-    LeftBy options (taken.HaltRelease appid.now version.now) stop old_records new_records old new
-LeftByAction options (action.Raise appid buckets) stop old_records new_records old new =
-    LeftBy options (taken.Raise appid.now buckets) stop old_records new_records old new
-LeftByAction options action.Back stop old_records new_records old new =
-    LeftByBack stop old_records new_records old new
-LeftByAction options (action.Put next) stop old_records new_records old new =
-    LeftBy options (taken.Put next.now) stop old_records new_records old new
-LeftByAction options (action.Resume appid buckets) stop old_records new_records old new =
-    LeftBy options (taken.Resume appid.now buckets) stop old_records new_records old new
-LeftByAction options other stop old_records new_records old new =
-    IsUnchanged old_records new_records old new
 
 module _ (known : KnownFiles) (manifest : List ℕ) (options : StageOptions) where
   -- from the records and files before to those after
@@ -59,13 +34,6 @@ module _ (known : KnownFiles) (manifest : List ℕ) (options : StageOptions) whe
       IsUnchanged old_records new_records old new
   IsStaged (action.Resume appid buckets) old_records new_records old new =
       HasResumed known manifest appid.now buckets options old_records new_records old new
-
-  -- whatever a call returns: the action is done, or left as a stop leaves it
-  abbrev pub IsStagedOrLeft : StageAction → (old_records new_records : KnownRecords)
-      → (old new : KnownFolder) → Type 0
-  IsStagedOrLeft action old_records new_records old new =
-      IsStaged action old_records new_records old new
-      ⊎ ((stop : Stop) × LeftByAction options action stop old_records new_records old new)
 
 -- without a server, and without `--anyway`, an action that changes files, but no halt, is done only
 -- if each record is read, and each file that a step which isn't undone replaced is as the last of

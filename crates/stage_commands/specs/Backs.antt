@@ -1,5 +1,5 @@
 -- What `back` does to the files of a folder, and what it doesn't undo.
-use Rattle.std.specs.Prelude.{◌≡◌, ℕ, List, Bool, false, Option, Some, None, IfSome}
+use Rattle.std.specs.Prelude.{◌≡◌, ◌⊎◌, ℕ, List, Bool, false, Option, Some, None, IfSome}
 use Rattle.std.specs.Prelude.{option_map}
 use Rattle.bounded_files.specs.Files.{KnownFiles}
 use Rattle.load.specs.declared.opened.CollectedManifest.{CollectedManifest}
@@ -10,8 +10,9 @@ use Rattle.stage_records.specs.Steps.{StagingStep}
 use Rattle.stage_rules.specs.InForce.{app_of_any_halt}
 use Rattle.stage_rules.specs.Lifting.{AreNamed, HasAppOf, LiftsNothing}
 use Rattle.stage_commands.specs.Befores.{WasGathered}
-use Rattle.stage_commands.specs.Taken.{IsLast, as_undone}
+use Rattle.stage_commands.specs.Taken.{IsLast, IsUnchanged, LeftByUndo, as_undone}
 use Rattle.stage_servers.specs.Gathered.{IsGathered}
+use Rattle.stage_servers.specs.declared.outcome.Stop.{Stop}
 
 -- undoing a step lifts no halt; if a manifest can't be gathered, the step isn't a halt
 abbrev pub LiftsNoneByUndoing : List StagingStep → StagingStep
@@ -64,3 +65,11 @@ module _ (known : KnownFiles) (current : List ℕ) (anyway : Bool) where
       : Type 0 where
     pub plan : PlansBack old_records old
     pub undoes : Undoes plan.step old_records new_records old new
+
+  -- nothing has changed; or the step that was to be undone is left so
+  abbrev pub LeftByBack : Stop → (old_records new_records : KnownRecords)
+      → (old new : KnownFolder) → Type 0
+  LeftByBack stop old_records new_records old new =
+      IsUnchanged old_records new_records old new
+      ⊎ ((plan : PlansBack old_records old)
+      × LeftByUndo stop plan.step old_records new_records old new)

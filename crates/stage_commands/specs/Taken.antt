@@ -16,6 +16,11 @@ use Rattle.stage_servers.specs.declared.options.StageOptions.{StageOptions}
 use Rattle.stage_servers.specs.declared.outcome.Stop.{Stop}
 use Rattle.stage_servers.specs.declared.outcome.Stop.TheVariants as stop
 
+-- nothing has changed
+abbrev pub IsUnchanged : (old_records new_records : KnownRecords) → (old new : KnownFolder)
+    → Type 0
+IsUnchanged old_records new_records old new = (new ≡ old) × (new_records ≡ old_records)
+
 -- the last recorded step that isn't undone
 pub record IsLast (records : KnownRecords) (step : StagingStep) : Type 0 where
   pub recorded : RecordedSteps
@@ -81,41 +86,55 @@ abbrev pub MayChange : Stop → Type 0
 MayChange (stop.Refused reason) = ⊥
 MayChange other = Unit {0}
 
--- the next step that does this, by the user and for the reason of the options: its number is new,
--- it has the bytes that each file has, and it isn't undone
-pub record IsNext (options : StageOptions) (action : StepAction) (records : KnownRecords)
-    (folder : KnownFolder) (step : StagingStep) : Type 0 where
+-- the next step that does this and replaces these files, by the user and for the reason of the
+-- options: its number is new, it has the bytes that each file has, it changes the bytes of each,
+-- and it isn't undone
+pub record IsNext (options : StageOptions) (action : StepAction) (files : List ReplacedFile)
+    (records : KnownRecords) (folder : KnownFolder) (step : StagingStep) : Type 0 where
   pub is_new : IsNewNumber records step.number
   pub action_is : step.action ≡ action
   pub user_is : step.user ≡ option_copied options.user
   pub because_is : step.because ≡ option_copied options.because
-  pub found : IfSome folder (IsFoundBy step.files)
+  pub files_are : step.files ≡ files
+  pub found : IfSome folder (IsFoundBy files)
+  pub changes : All (λ file. is_change file ≡ true) files
   pub not_undone : step.is_undone ≡ false
 
--- no file has changed, but a step may be recorded; or it is, and some of its files are replaced, or
--- all
+-- of a step that replaces files: no file has changed, but the step may be recorded; or it is, and
+-- some of its files are replaced, or all
 abbrev pub IsLeftTaken : StagingStep → (old_records new_records : KnownRecords)
     → (old new : KnownFolder) → Type 0
-IsLeftTaken step old_records new_records old new =
-    (MayBeRecorded step old_records new_records × (new ≡ old))
+IsLeftTaken step old_records new_records old new = (step.files ≢ [])
+    × ((MayBeRecorded step old_records new_records × (new ≡ old))
     ⊎ (IsRecorded step old_records new_records × (has_distinct_names step.files ≡ true)
-    × IsPartlyDone step.files old new)
+    × IsPartlyDone step.files old new))
 
--- a stop that says that nothing has changed leaves all records and files as before
+-- nothing has changed; or the stop doesn't say so, and the step is left so
 abbrev pub LeftByTake : Stop → StagingStep → (old_records new_records : KnownRecords)
     → (old new : KnownFolder) → Type 0
-LeftByTake (stop.Refused reason) step old_records new_records old new =
-    (new_records ≡ old_records) × (new ≡ old)
-LeftByTake other step old_records new_records old new =
-    IsLeftTaken step old_records new_records old new
+LeftByTake stop step old_records new_records old new =
+    IsUnchanged old_records new_records old new
+    ⊎ (MayChange stop × IsLeftTaken step old_records new_records old new)
 
--- nothing has changed; or the next step that does this is left so
-abbrev pub LeftBy : StageOptions → StepAction → Stop → (old_records new_records : KnownRecords)
-    → (old new : KnownFolder) → Type 0
-LeftBy options action stop old_records new_records old new =
-    ((new_records ≡ old_records) × (new ≡ old))
-    ⊎ ((step : StagingStep) × IsNext options action old_records old step
+-- nothing has changed; or the next step that does this and replaces these files is left so
+abbrev pub LeftByFiles : StageOptions → StepAction → List ReplacedFile → Stop
+    → (old_records new_records : KnownRecords) → (old new : KnownFolder) → Type 0
+LeftByFiles options action files stop old_records new_records old new =
+    IsUnchanged old_records new_records old new
+    ⊎ ((step : StagingStep) × IsNext options action files old_records old step
     × LeftByTake stop step old_records new_records old new)
+
+-- some files are planned
+abbrev pub HasPlan : (IsPlan : List ReplacedFile → Type 0) → Type 0
+HasPlan IsPlan = (files : List ReplacedFile) × IsPlan files
+
+-- nothing has changed; or files are planned, and the next step that replaces them is left so
+abbrev pub LeftBy : (IsPlan : List ReplacedFile → Type 0) → StageOptions → StepAction → Stop
+    → (old_records new_records : KnownRecords) → (old new : KnownFolder) → Type 0
+LeftBy IsPlan options action stop old_records new_records old new =
+    IsUnchanged old_records new_records old new
+    ⊎ ((files : List ReplacedFile) × IsPlan files
+    × LeftByFiles options action files stop old_records new_records old new)
 
 -- ---- a stop while a step is undone
 
@@ -134,13 +153,6 @@ LeftByUndo (stop.Refused reason) step old_records new_records old new =
     (new_records ≡ old_records) × (new ≡ old)
 LeftByUndo other step old_records new_records old new =
     IsLeftUndone step old_records new_records old new
-
--- nothing has changed; or the last step that isn't undone is left so
-abbrev pub LeftByBack : Stop → (old_records new_records : KnownRecords) → (old new : KnownFolder)
-    → Type 0
-LeftByBack stop old_records new_records old new = ((new_records ≡ old_records) × (new ≡ old))
-    ⊎ ((step : StagingStep) × IsLast old_records step
-    × LeftByUndo stop step old_records new_records old new)
 
 -- ---- a record that can't be written
 

@@ -1,9 +1,9 @@
 //! One action of `stage`, from the folder to the servers.
 
-ghost use Rattle.std.specs.Prelude.{◌≡◌, IfErr, IfOk, OnErr, OnOk, false, true};
-ghost use Rattle.stage_commands.specs.Actions.{HasNoEdits, IsStaged, IsStagedOrLeft, IsUnchanged};
-ghost use Rattle.stage_commands.specs.Actions.{LeftByAction};
-ghost use Rattle.stage_commands.specs.Planned.{IsForeseen, IsPlanned};
+ghost use Rattle.std.specs.Prelude.{◌≡◌, IfErr, IfOk, OnOk, false, true};
+ghost use Rattle.stage_commands.specs.Actions.{HasNoEdits, IsStaged};
+ghost use Rattle.stage_commands.specs.Planned.{IsPlanned, IsStagedOrLeft, LeftByAction};
+ghost use Rattle.stage_commands.specs.Taken.{IsUnchanged};
 ghost use Rattle.stage_servers.specs.Whole as specs;
 ghost use Rattle.stage_servers.specs.Whole.{IsSeenWhole};
 
@@ -63,7 +63,7 @@ where
 
 // Prints the status or the history; or changes the files, and has the servers load the manifest.
 // Returns whether all is done.
-#[tactic(auto, using(crate::proofs::Left::unchanged_action, crate::proofs::Seen::unseen))]
+#[tactic(auto, using(crate::proofs::Left::unchanged, crate::proofs::Seen::unseen))]
 fn act<R, D, F>(
     call: &StageCall<'_, R, D>,
     folder: &mut F,
@@ -84,16 +84,13 @@ where
         (F.records folder.old) (F.files folder.old)) }
     ensures unedited { OnOk result (HasNoEdits call.now.options.now action.now
         (F.records folder.old) (F.files folder.old)) }
-    ensures stopped { IfErr result (λ stop. LeftByAction call.now.options.now
-        action.now stop (F.records folder.old) (F.records folder.new) (F.files folder.old)
-        (F.files folder.new)) }
+    ensures stopped { IfErr result (λ stop. LeftByAction (D.known call.now.disk.now)
+        call.now.manifest.now call.now.options.now (F.records folder.old) (F.files folder.old)
+        action.now stop (F.records folder.new) (F.files folder.new)) }
     ensures looked { specs.only_looks action.now ≡ true → IsUnchanged (F.records folder.old)
         (F.records folder.new) (F.files folder.old) (F.files folder.new) }
     ensures unchanged { call.now.options.now.dry_run ≡ true → IsUnchanged (F.records folder.old)
         (F.records folder.new) (F.files folder.old) (F.files folder.new) }
-    ensures foreseen { OnErr result (IsForeseen (D.known call.now.disk.now) call.now.manifest.now
-        call.now.options.now (F.records folder.old) (F.files folder.old) action.now
-        (F.records folder.new) (F.files folder.new)) }
 {
     if only_looks(action) {
         return match look(call, &*folder, action, lines) {
@@ -132,15 +129,12 @@ where
     ensures unedited { IfOk result (λ outcome. outcome.is_done ≡ true → HasNoEdits options.now
         action.now (F.records folder.old) (F.files folder.old)) }
     ensures left { options.now.dry_run ≡ false → IsStagedOrLeft (D.known disk.now) manifest.now
-        options.now action.now (F.records folder.old) (F.records folder.new)
-        (F.files folder.old) (F.files folder.new) }
+        options.now (F.records folder.old) (F.files folder.old) action.now
+        (F.records folder.new) (F.files folder.new) }
     ensures looked { specs.only_looks action.now ≡ true → IsUnchanged (F.records folder.old)
         (F.records folder.new) (F.files folder.old) (F.files folder.new) }
     ensures unchanged { options.now.dry_run ≡ true → IsUnchanged (F.records folder.old)
         (F.records folder.new) (F.files folder.old) (F.files folder.new) }
-    ensures foreseen { IsForeseen (D.known disk.now) manifest.now options.now
-        (F.records folder.old) (F.files folder.old) action.now (F.records folder.new)
-        (F.files folder.new) }
 {
     let call = StageCall {
         rt,
@@ -185,15 +179,12 @@ where
     ensures unedited { IfOk result (λ outcome. outcome.is_done ≡ true → HasNoEdits options.now
         action.now (F.records folder.old) (F.files folder.old)) }
     ensures left { options.now.dry_run ≡ false → IsStagedOrLeft (D.known disk.now) manifest.now
-        options.now action.now (F.records folder.old) (F.records folder.new)
-        (F.files folder.old) (F.files folder.new) }
+        options.now (F.records folder.old) (F.files folder.old) action.now
+        (F.records folder.new) (F.files folder.new) }
     ensures looked { specs.only_looks action.now ≡ true → IsUnchanged (F.records folder.old)
         (F.records folder.new) (F.files folder.old) (F.files folder.new) }
     ensures unchanged { options.now.dry_run ≡ true → IsUnchanged (F.records folder.old)
         (F.records folder.new) (F.files folder.old) (F.files folder.new) }
-    ensures foreseen { IsForeseen (D.known disk.now) manifest.now options.now
-        (F.records folder.old) (F.files folder.old) action.now (F.records folder.new)
-        (F.files folder.new) }
 {
     stage_on(
         rt,

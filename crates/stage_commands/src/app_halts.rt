@@ -1,12 +1,11 @@
 //! `stage halt`: the app's file is replaced by the one that offers no release.
 
-ghost use Rattle.std.specs.Prelude.{◌≡◌, ◌⊎◌, IfErr, IfOk, OnErr, OnOk, false, true};
+ghost use Rattle.std.specs.Prelude.{◌≡◌, IfErr, IfOk, OnOk, false, true};
 ghost use Rattle.bounded_files.specs.Files.{KnownFiles};
 ghost use Rattle.load.specs.Opened.{IsCollected};
-ghost use Rattle.stage_commands.specs.Actions.{IsUnchanged};
-ghost use Rattle.stage_commands.specs.Planned.{IsHaltPlanned};
+ghost use Rattle.stage_commands.specs.Planned.{AreHaltFiles};
 ghost use Rattle.stage_commands.specs.Stages.{HasHalted, PlansHalt, PlansHaltOf};
-ghost use Rattle.stage_commands.specs.Taken.{LeftBy};
+ghost use Rattle.stage_commands.specs.Taken.{HasPlan, IsUnchanged, LeftBy};
 ghost use Rattle.stage_records.specs.declared.step.StepAction.TheVariants.{Halt};
 
 use crate::app_file::{app_to_change, replacement};
@@ -86,7 +85,7 @@ where
 }
 
 /// Halts an app. No earlier record has to be readable.
-#[tactic(auto, using(crate::proofs::Replacing::halted, crate::proofs::Left::unchanged_by))]
+#[tactic(auto, using(crate::proofs::Replacing::halted, crate::proofs::Left::unchanged))]
 pub(crate) fn halt<R, D, F>(
     call: &StageCall<'_, R, D>,
     folder: &mut F,
@@ -97,21 +96,19 @@ where
     R: Files + AllocGlobal + Clock,
     D: Disk,
     F: StageFolder,
-    ensures planned { OnOk result (IsHaltPlanned (D.known call.now.disk.now) call.now.manifest.now
-        call.now.options.now (F.records folder.old) (F.files folder.old) appid.now) }
+    ensures planned { OnOk result (HasPlan (AreHaltFiles (D.known call.now.disk.now)
+        call.now.manifest.now call.now.options.now (F.records folder.old) (F.files folder.old)
+        appid.now)) }
     ensures done { OnOk result (call.now.options.now.dry_run ≡ false
         → HasHalted (D.known call.now.disk.now) call.now.manifest.now appid.now
         call.now.options.now (F.records folder.old) (F.records folder.new)
         (F.files folder.old) (F.files folder.new)) }
-    ensures stopped { IfErr result (λ stop. LeftBy call.now.options.now (Halt appid.now) stop
-        (F.records folder.old) (F.records folder.new) (F.files folder.old)
-        (F.files folder.new)) }
+    ensures stopped { IfErr result (λ stop. LeftBy (AreHaltFiles (D.known call.now.disk.now)
+        call.now.manifest.now call.now.options.now (F.records folder.old) (F.files folder.old)
+        appid.now) call.now.options.now (Halt appid.now) stop (F.records folder.old)
+        (F.records folder.new) (F.files folder.old) (F.files folder.new)) }
     ensures unchanged { call.now.options.now.dry_run ≡ true → IsUnchanged (F.records folder.old)
         (F.records folder.new) (F.files folder.old) (F.files folder.new) }
-    ensures foreseen { OnErr result (IsUnchanged (F.records folder.old) (F.records folder.new)
-        (F.files folder.old) (F.files folder.new)
-        ⊎ IsHaltPlanned (D.known call.now.disk.now) call.now.manifest.now
-        call.now.options.now (F.records folder.old) (F.files folder.old) appid.now) }
 {
     let alloc = call.rt.alloc();
     let number = match number_in(alloc, folder) {

@@ -1,10 +1,9 @@
 //! `stage back`: the last step that isn't undone is undone.
 
-ghost use Rattle.std.specs.Prelude.{◌≡◌, ◌⊎◌, IfErr, IfSome, OnErr, OnOk, false, true};
-ghost use Rattle.stage_commands.specs.Actions.{IsUnchanged};
+ghost use Rattle.std.specs.Prelude.{◌≡◌, IfErr, IfSome, OnOk, false, true};
 ghost use Rattle.stage_commands.specs.Backs.{HasGoneBack, IsRestorable, PlansBack};
-ghost use Rattle.stage_commands.specs.Backs.{UndoingLiftsNone};
-ghost use Rattle.stage_commands.specs.Taken.{LeftByBack};
+ghost use Rattle.stage_commands.specs.Backs.{LeftByBack, UndoingLiftsNone};
+ghost use Rattle.stage_commands.specs.Taken.{IsUnchanged};
 ghost use Rattle.stage_records.specs.Steps.{last_step};
 
 use crate::restored::compare_restored;
@@ -58,7 +57,7 @@ where
 
 /// Compares what changes, and then undoes the last step that isn't undone, even one that stopped in
 /// its middle.
-#[tactic(auto, using(crate::proofs::Left::unchanged_back))]
+#[tactic(auto, using(crate::proofs::Left::unchanged))]
 pub(crate) fn go_back<R, D, F>(
     call: &StageCall<'_, R, D>,
     folder: &mut F,
@@ -74,14 +73,11 @@ where
         (D.known call.now.disk.now) call.now.manifest.now call.now.options.now.anyway
         (F.records folder.old) (F.records folder.new) (F.files folder.old)
         (F.files folder.new)) }
-    ensures stopped { IfErr result (λ stop. LeftByBack stop (F.records folder.old)
+    ensures stopped { IfErr result (λ stop. LeftByBack (D.known call.now.disk.now)
+        call.now.manifest.now call.now.options.now.anyway stop (F.records folder.old)
         (F.records folder.new) (F.files folder.old) (F.files folder.new)) }
     ensures unchanged { call.now.options.now.dry_run ≡ true → IsUnchanged (F.records folder.old)
         (F.records folder.new) (F.files folder.old) (F.files folder.new) }
-    ensures foreseen { OnErr result (IsUnchanged (F.records folder.old) (F.records folder.new)
-        (F.files folder.old) (F.files folder.new)
-        ⊎ PlansBack (D.known call.now.disk.now) call.now.manifest.now
-        call.now.options.now.anyway (F.records folder.old) (F.files folder.old)) }
 {
     let alloc = call.rt.alloc();
     let recorded = match read_steps(alloc, folder) {

@@ -1,8 +1,9 @@
 //! An action that changes files: what is found before, the change, and the servers' loads.
 
-ghost use Rattle.std.specs.Prelude.{◌≡◌, ◌⊎◌, IfErr, OnErr, OnOk, false, true};
-ghost use Rattle.stage_commands.specs.Actions.{HasNoEdits, IsStaged, IsUnchanged, LeftByAction};
-ghost use Rattle.stage_commands.specs.Planned.{IsForeseen, IsPlanned};
+ghost use Rattle.std.specs.Prelude.{◌≡◌, IfErr, OnOk, false, true};
+ghost use Rattle.stage_commands.specs.Actions.{HasNoEdits, IsStaged};
+ghost use Rattle.stage_commands.specs.Planned.{IsPlanned, LeftByAction, LeftByPlan};
+ghost use Rattle.stage_commands.specs.Taken.{IsUnchanged};
 
 use crate::app_halts::halt;
 use crate::backs::go_back;
@@ -22,7 +23,6 @@ use std::rt::Files;
 use std::time::Clock;
 
 // Changes the files as the action says. A status and a history change nothing.
-#[tactic(auto, using(crate::proofs::Left::unchanged_action))]
 fn change_files<R, D, F>(
     call: &StageCall<'_, R, D>,
     folder: &mut F,
@@ -39,15 +39,11 @@ where
         → IsStaged (D.known call.now.disk.now) call.now.manifest.now call.now.options.now
         action.now (F.records folder.old) (F.records folder.new) (F.files folder.old)
         (F.files folder.new)) }
-    ensures stopped { IfErr result (λ stop. LeftByAction call.now.options.now
-        action.now stop (F.records folder.old) (F.records folder.new) (F.files folder.old)
-        (F.files folder.new)) }
+    ensures stopped { IfErr result (λ stop. LeftByPlan (D.known call.now.disk.now)
+        call.now.manifest.now call.now.options.now (F.records folder.old) (F.files folder.old)
+        action.now stop (F.records folder.new) (F.files folder.new)) }
     ensures unchanged { call.now.options.now.dry_run ≡ true → IsUnchanged (F.records folder.old)
         (F.records folder.new) (F.files folder.old) (F.files folder.new) }
-    ensures foreseen { OnErr result (IsUnchanged (F.records folder.old) (F.records folder.new)
-        (F.files folder.old) (F.files folder.new)
-        ⊎ IsPlanned (D.known call.now.disk.now) call.now.manifest.now
-        call.now.options.now (F.records folder.old) (F.files folder.old) action.now) }
 {
     match *action {
         StageAction::Halt { appid } => halt(call, folder, appid, lines),
@@ -106,7 +102,7 @@ where
 }
 
 /// Changes the files, and has the servers load the manifest. Returns whether all is done.
-#[tactic(auto, using(crate::proofs::Left::unchanged_action))]
+#[tactic(auto, using(crate::proofs::Left::unchanged))]
 pub(crate) fn change_and_load<R, D, F>(
     call: &StageCall<'_, R, D>,
     folder: &mut F,
@@ -125,14 +121,11 @@ where
         (F.files folder.new)) }
     ensures unedited { OnOk result (HasNoEdits call.now.options.now action.now
         (F.records folder.old) (F.files folder.old)) }
-    ensures stopped { IfErr result (λ stop. LeftByAction call.now.options.now
-        action.now stop (F.records folder.old) (F.records folder.new) (F.files folder.old)
-        (F.files folder.new)) }
+    ensures stopped { IfErr result (λ stop. LeftByAction (D.known call.now.disk.now)
+        call.now.manifest.now call.now.options.now (F.records folder.old) (F.files folder.old)
+        action.now stop (F.records folder.new) (F.files folder.new)) }
     ensures unchanged { call.now.options.now.dry_run ≡ true → IsUnchanged (F.records folder.old)
         (F.records folder.new) (F.files folder.old) (F.files folder.new) }
-    ensures foreseen { OnErr result (IsForeseen (D.known call.now.disk.now) call.now.manifest.now
-        call.now.options.now (F.records folder.old) (F.files folder.old) action.now
-        (F.records folder.new) (F.files folder.new)) }
 {
     let Found { servers, halted } = match found_before(call, &*folder, action, lines) {
         Ok(found) => found,

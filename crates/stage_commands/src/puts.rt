@@ -1,12 +1,11 @@
 //! `stage put`: a manifest from elsewhere, and the files that it names, replace those in place.
 
-ghost use Rattle.std.specs.Prelude.{◌≡◌, ◌⊎◌, IfErr, IfOk, OnErr, OnOk, false, true};
-ghost use Rattle.stage_commands.specs.Actions.{IsUnchanged};
-ghost use Rattle.stage_commands.specs.Planned.{IsPutPlanned};
+ghost use Rattle.std.specs.Prelude.{◌≡◌, IfErr, IfOk, OnOk, false, true};
+ghost use Rattle.stage_commands.specs.Planned.{ArePutFiles};
 ghost use Rattle.stage_commands.specs.Compared.{AreAllJudged};
 ghost use Rattle.stage_commands.specs.PutPlans.{IsPutPlan, IsUnrefused};
 ghost use Rattle.stage_commands.specs.Puts.{HasPut, PlansPut};
-ghost use Rattle.stage_commands.specs.Taken.{LeftBy};
+ghost use Rattle.stage_commands.specs.Taken.{HasPlan, IsUnchanged, LeftBy};
 ghost use Rattle.stage_records.specs.declared.step.StepAction.TheVariants.{Put};
 
 use crate::comparison::compare;
@@ -147,7 +146,7 @@ where
 }
 
 /// Puts the manifest at a path, and the files that it names, in place.
-#[tactic(auto, using(crate::proofs::Left::unchanged_by))]
+#[tactic(auto, using(crate::proofs::Left::unchanged))]
 pub(crate) fn put<R, D, F>(
     call: &StageCall<'_, R, D>,
     folder: &mut F,
@@ -158,21 +157,19 @@ where
     R: AllocGlobal + Clock + Net<Stream = TcpStream>,
     D: Disk,
     F: StageFolder,
-    ensures planned { OnOk result (IsPutPlanned (D.known call.now.disk.now) call.now.manifest.now
-        call.now.options.now (F.records folder.old) (F.files folder.old) manifest.now) }
+    ensures planned { OnOk result (HasPlan (ArePutFiles (D.known call.now.disk.now)
+        call.now.manifest.now call.now.options.now (F.records folder.old) (F.files folder.old)
+        manifest.now)) }
     ensures done { OnOk result (call.now.options.now.dry_run ≡ false
         → HasPut (D.known call.now.disk.now) call.now.manifest.now manifest.now
         call.now.options.now (F.records folder.old) (F.records folder.new)
         (F.files folder.old) (F.files folder.new)) }
-    ensures stopped { IfErr result (λ stop. LeftBy call.now.options.now (Put manifest.now) stop
-        (F.records folder.old) (F.records folder.new) (F.files folder.old)
-        (F.files folder.new)) }
+    ensures stopped { IfErr result (λ stop. LeftBy (ArePutFiles (D.known call.now.disk.now)
+        call.now.manifest.now call.now.options.now (F.records folder.old) (F.files folder.old)
+        manifest.now) call.now.options.now (Put manifest.now) stop (F.records folder.old)
+        (F.records folder.new) (F.files folder.old) (F.files folder.new)) }
     ensures unchanged { call.now.options.now.dry_run ≡ true → IsUnchanged (F.records folder.old)
         (F.records folder.new) (F.files folder.old) (F.files folder.new) }
-    ensures foreseen { OnErr result (IsUnchanged (F.records folder.old) (F.records folder.new)
-        (F.files folder.old) (F.files folder.new)
-        ⊎ IsPutPlanned (D.known call.now.disk.now) call.now.manifest.now
-        call.now.options.now (F.records folder.old) (F.files folder.old) manifest.now) }
 {
     steps_leave();
     match plan_of(call, &*folder, manifest, lines) {

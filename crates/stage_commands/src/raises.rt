@@ -1,16 +1,15 @@
 //! `stage raise`: the number of the one threshold in the app's rule is changed.
 
-ghost use Rattle.std.specs.Prelude.{◌≡◌, ◌⊎◌, IfErr, IfOk, IfSome, OnErr, OnOk, Some, false};
+ghost use Rattle.std.specs.Prelude.{◌≡◌, IfErr, IfOk, IfSome, OnOk, Some, false};
 ghost use Rattle.std.specs.Prelude.{string_bytes, true};
 ghost use Rattle.bounded_files.specs.Files.{KnownFiles};
 ghost use Rattle.load.specs.Opened.{IsCollected};
 ghost use Rattle.manifest.specs.App.{file_of};
 ghost use Rattle.stage_rules.specs.Raises.{IsRaised};
-ghost use Rattle.stage_commands.specs.Actions.{IsUnchanged};
 ghost use Rattle.stage_commands.specs.Compared.{IsAcceptedWith};
-ghost use Rattle.stage_commands.specs.Planned.{IsRaisePlanned};
+ghost use Rattle.stage_commands.specs.Planned.{AreRaiseFiles};
 ghost use Rattle.stage_commands.specs.Stages.{HasRaised, PlansRaise, PlansRaiseOf};
-ghost use Rattle.stage_commands.specs.Taken.{LeftBy};
+ghost use Rattle.stage_commands.specs.Taken.{HasPlan, IsUnchanged, LeftBy};
 ghost use Rattle.stage_records.specs.declared.step.StepAction.TheVariants.{Raise};
 ghost use Rattle.stage_folder.specs.Folders.{GivesFile};
 
@@ -158,7 +157,7 @@ where
 }
 
 /// Raises the rule of an app, once the next manifest is judged and compared with the present one.
-#[tactic(auto, using(crate::proofs::Left::unchanged_by))]
+#[tactic(auto, using(crate::proofs::Left::unchanged))]
 pub(crate) fn raise<R, D, F>(
     call: &StageCall<'_, R, D>,
     folder: &mut F,
@@ -170,21 +169,19 @@ where
     R: Files + AllocGlobal + Clock + Net<Stream = TcpStream>,
     D: Disk,
     F: StageFolder,
-    ensures planned { OnOk result (IsRaisePlanned (D.known call.now.disk.now) call.now.manifest.now
-        call.now.options.now (F.records folder.old) (F.files folder.old) appid.now buckets) }
+    ensures planned { OnOk result (HasPlan (AreRaiseFiles (D.known call.now.disk.now)
+        call.now.manifest.now call.now.options.now (F.records folder.old) (F.files folder.old)
+        appid.now buckets)) }
     ensures done { OnOk result (call.now.options.now.dry_run ≡ false
         → HasRaised (D.known call.now.disk.now) call.now.manifest.now appid.now buckets
         call.now.options.now (F.records folder.old) (F.records folder.new)
         (F.files folder.old) (F.files folder.new)) }
-    ensures stopped { IfErr result (λ stop. LeftBy call.now.options.now
-        (Raise appid.now buckets) stop (F.records folder.old) (F.records folder.new)
-        (F.files folder.old) (F.files folder.new)) }
+    ensures stopped { IfErr result (λ stop. LeftBy (AreRaiseFiles (D.known call.now.disk.now)
+        call.now.manifest.now call.now.options.now (F.records folder.old) (F.files folder.old)
+        appid.now buckets) call.now.options.now (Raise appid.now buckets) stop
+        (F.records folder.old) (F.records folder.new) (F.files folder.old) (F.files folder.new)) }
     ensures unchanged { call.now.options.now.dry_run ≡ true → IsUnchanged (F.records folder.old)
         (F.records folder.new) (F.files folder.old) (F.files folder.new) }
-    ensures foreseen { OnErr result (IsUnchanged (F.records folder.old) (F.records folder.new)
-        (F.files folder.old) (F.files folder.new)
-        ⊎ IsRaisePlanned (D.known call.now.disk.now) call.now.manifest.now
-        call.now.options.now (F.records folder.old) (F.files folder.old) appid.now buckets) }
 {
     let alloc = call.rt.alloc();
     let recorded = match read_steps(alloc, folder) {

@@ -1,14 +1,13 @@
 //! `stage halt` of one release: the statements that offer it are taken out of the app's rule.
 
-ghost use Rattle.std.specs.Prelude.{◌≡◌, ◌⊎◌, IfErr, IfOk, OnErr, OnOk, false, string_bytes, true};
+ghost use Rattle.std.specs.Prelude.{◌≡◌, IfErr, IfOk, OnOk, false, string_bytes, true};
 ghost use Rattle.bounded_files.specs.Files.{KnownFiles};
 ghost use Rattle.load.specs.Opened.{IsCollected};
 ghost use Rattle.stage_rules.specs.ReleaseHalts.{IsWithout};
-ghost use Rattle.stage_commands.specs.Actions.{IsUnchanged};
-ghost use Rattle.stage_commands.specs.Planned.{IsReleaseHaltPlanned};
+ghost use Rattle.stage_commands.specs.Planned.{AreReleaseHaltFiles};
 ghost use Rattle.stage_commands.specs.ReleaseHalts.{HasHaltedRelease, PlansReleaseHalt};
 ghost use Rattle.stage_commands.specs.ReleaseHalts.{PlansReleaseHaltOf};
-ghost use Rattle.stage_commands.specs.Taken.{LeftBy};
+ghost use Rattle.stage_commands.specs.Taken.{HasPlan, IsUnchanged, LeftBy};
 ghost use Rattle.stage_records.specs.declared.step.StepAction.TheVariants.{HaltRelease};
 
 use crate::app_file::{app_to_change, replacement};
@@ -129,7 +128,7 @@ fn action_of(alloc: Global, appid: &str, version: &str) -> Result<StepAction, Al
 }
 
 /// Halts one release of an app. No earlier record has to be readable.
-#[tactic(auto, using(crate::proofs::Replacing::halted_release, crate::proofs::Left::unchanged_by))]
+#[tactic(auto, using(crate::proofs::Replacing::halted_release, crate::proofs::Left::unchanged))]
 pub(crate) fn halt_release<R, D, F>(
     call: &StageCall<'_, R, D>,
     folder: &mut F,
@@ -141,22 +140,19 @@ where
     R: Files + AllocGlobal + Clock,
     D: Disk,
     F: StageFolder,
-    ensures planned { OnOk result (IsReleaseHaltPlanned (D.known call.now.disk.now)
+    ensures planned { OnOk result (HasPlan (AreReleaseHaltFiles (D.known call.now.disk.now)
         call.now.manifest.now call.now.options.now (F.records folder.old) (F.files folder.old)
-        appid.now version.now) }
+        appid.now version.now)) }
     ensures done { OnOk result (call.now.options.now.dry_run ≡ false
         → HasHaltedRelease (D.known call.now.disk.now) call.now.manifest.now appid.now version.now
         call.now.options.now (F.records folder.old) (F.records folder.new)
         (F.files folder.old) (F.files folder.new)) }
-    ensures stopped { IfErr result (λ stop. LeftBy call.now.options.now
-        (HaltRelease appid.now version.now) stop (F.records folder.old) (F.records folder.new)
-        (F.files folder.old) (F.files folder.new)) }
+    ensures stopped { IfErr result (λ stop. LeftBy (AreReleaseHaltFiles (D.known call.now.disk.now)
+        call.now.manifest.now call.now.options.now (F.records folder.old) (F.files folder.old)
+        appid.now version.now) call.now.options.now (HaltRelease appid.now version.now) stop
+        (F.records folder.old) (F.records folder.new) (F.files folder.old) (F.files folder.new)) }
     ensures unchanged { call.now.options.now.dry_run ≡ true → IsUnchanged (F.records folder.old)
         (F.records folder.new) (F.files folder.old) (F.files folder.new) }
-    ensures foreseen { OnErr result (IsUnchanged (F.records folder.old) (F.records folder.new)
-        (F.files folder.old) (F.files folder.new)
-        ⊎ IsReleaseHaltPlanned (D.known call.now.disk.now) call.now.manifest.now
-        call.now.options.now (F.records folder.old) (F.files folder.old) appid.now version.now) }
 {
     let alloc = call.rt.alloc();
     let number = match number_in(alloc, folder) {

@@ -1,14 +1,13 @@
 //! `stage resume`: the app's file gets what it had before its last halt, or that rule with another
 //! number in its threshold.
 
-ghost use Rattle.std.specs.Prelude.{◌≡◌, ◌⊎◌, IfErr, IfOk, IfSome, OnErr, OnOk, false, true};
+ghost use Rattle.std.specs.Prelude.{◌≡◌, IfErr, IfOk, IfSome, OnOk, false, true};
 ghost use Rattle.bounded_files.specs.Files.{KnownFiles};
 ghost use Rattle.load.specs.Opened.{IsCollected};
-ghost use Rattle.stage_commands.specs.Actions.{IsUnchanged};
 ghost use Rattle.stage_commands.specs.Compared.{IsAcceptedWith};
-ghost use Rattle.stage_commands.specs.Planned.{IsResumePlanned};
+ghost use Rattle.stage_commands.specs.Planned.{AreResumeFiles};
 ghost use Rattle.stage_commands.specs.Resumes.{HasResumed, PlansResume};
-ghost use Rattle.stage_commands.specs.Taken.{LeftBy};
+ghost use Rattle.stage_commands.specs.Taken.{HasPlan, IsUnchanged, LeftBy};
 ghost use Rattle.stage_records.specs.declared.step.StepAction.TheVariants.{Resume};
 ghost use Rattle.stage_rules.specs.InForce as in_force;
 
@@ -124,7 +123,7 @@ where
 /// Gives the app's file what it had before its last halt, if that is in force or of a release; with
 /// a number, the rule then has this number in its threshold. The next manifest is judged and
 /// compared first.
-#[tactic(auto, using(crate::proofs::Replacing::resumed, crate::proofs::Left::unchanged_by))]
+#[tactic(auto, using(crate::proofs::Replacing::resumed, crate::proofs::Left::unchanged))]
 pub(crate) fn resume<R, D, F>(
     call: &StageCall<'_, R, D>,
     folder: &mut F,
@@ -136,21 +135,19 @@ where
     R: Files + AllocGlobal + Clock + Net<Stream = TcpStream>,
     D: Disk,
     F: StageFolder,
-    ensures planned { OnOk result (IsResumePlanned (D.known call.now.disk.now) call.now.manifest.now
-        call.now.options.now (F.records folder.old) (F.files folder.old) appid.now buckets) }
+    ensures planned { OnOk result (HasPlan (AreResumeFiles (D.known call.now.disk.now)
+        call.now.manifest.now call.now.options.now (F.records folder.old) (F.files folder.old)
+        appid.now buckets)) }
     ensures done { OnOk result (call.now.options.now.dry_run ≡ false
         → HasResumed (D.known call.now.disk.now) call.now.manifest.now appid.now buckets
         call.now.options.now (F.records folder.old) (F.records folder.new)
         (F.files folder.old) (F.files folder.new)) }
-    ensures stopped { IfErr result (λ stop. LeftBy call.now.options.now
-        (Resume appid.now buckets) stop (F.records folder.old) (F.records folder.new)
-        (F.files folder.old) (F.files folder.new)) }
+    ensures stopped { IfErr result (λ stop. LeftBy (AreResumeFiles (D.known call.now.disk.now)
+        call.now.manifest.now call.now.options.now (F.records folder.old) (F.files folder.old)
+        appid.now buckets) call.now.options.now (Resume appid.now buckets) stop
+        (F.records folder.old) (F.records folder.new) (F.files folder.old) (F.files folder.new)) }
     ensures unchanged { call.now.options.now.dry_run ≡ true → IsUnchanged (F.records folder.old)
         (F.records folder.new) (F.files folder.old) (F.files folder.new) }
-    ensures foreseen { OnErr result (IsUnchanged (F.records folder.old) (F.records folder.new)
-        (F.files folder.old) (F.files folder.new)
-        ⊎ IsResumePlanned (D.known call.now.disk.now) call.now.manifest.now
-        call.now.options.now (F.records folder.old) (F.files folder.old) appid.now buckets) }
 {
     let alloc = call.rt.alloc();
     let recorded = match read_steps(alloc, folder) {

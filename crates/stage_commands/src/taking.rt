@@ -1,13 +1,12 @@
 //! Recording a step, and performing it.
 
-ghost use Rattle.std.specs.Prelude.{◌≡◌, ◌≢◌, [], IfErr, IfOk, IfSome, OnErr, OnOk, false};
+ghost use Rattle.std.specs.Prelude.{◌≡◌, ◌≢◌, [], All, IfErr, IfOk, IfSome, OnErr, OnOk, false};
 ghost use Rattle.std.specs.Prelude.{option_copied, option_map, option_to_list, true};
-ghost use Rattle.stage_commands.specs.Actions.{IsUnchanged};
-ghost use Rattle.stage_commands.specs.Taken.{IsNewNumber, LeftBy, LeftByTake, MayChange, Performs};
-ghost use Rattle.stage_commands.specs.Taken.{RecordLeftBy, Takes};
+ghost use Rattle.stage_commands.specs.Taken.{IsNewNumber, IsUnchanged, LeftByFiles, LeftByTake};
+ghost use Rattle.stage_commands.specs.Taken.{MayChange, Performs, RecordLeftBy, Takes};
 ghost use Rattle.stage_folder.specs.Recorded.{IsRecorded};
 ghost use Rattle.stage_folder.specs.Steps.{IsFoundBy, IsPartlyDone, done};
-ghost use Rattle.stage_folder.specs.Steps.{has_distinct_names};
+ghost use Rattle.stage_folder.specs.Steps.{has_distinct_names, is_change};
 
 use crate::app_file::files_of;
 use crate::step_stops::{not_recorded, stopped_at};
@@ -77,7 +76,7 @@ fn are_none(files: &[ReplacedFile]) -> bool
 }
 
 // Records a step, unless it replaces no file, and performs it.
-#[tactic(auto, using(crate::proofs::Left::not_recorded, crate::proofs::Left::performs_none))]
+#[tactic(auto, using(crate::proofs::Left::performs_none))]
 fn perform_step<F: StageFolder>(
     alloc: Global,
     folder: &mut F,
@@ -101,7 +100,7 @@ fn perform_step<F: StageFolder>(
 }
 
 // The same, and says which files are replaced; for `--dry-run` it only says so.
-#[tactic(auto, using(crate::proofs::Left::unchanged_take))]
+#[tactic(auto, using(crate::proofs::Left::unchanged))]
 fn take<F: StageFolder>(
     alloc: Global,
     folder: &mut F,
@@ -167,7 +166,7 @@ fn new_step<R: AllocGlobal + Clock, D>(
 
 /// Records and performs a step of this new number that replaces these files, as they are in the
 /// folder. It only prints for `--dry-run`, and records none that replaces no file.
-#[tactic(auto, using(crate::proofs::Left::takes_by, crate::proofs::Left::unchanged_by))]
+#[tactic(auto, using(crate::proofs::Left::takes_by, crate::proofs::Left::unchanged))]
 pub(crate) fn take_step<R, D, F>(
     call: &StageCall<'_, R, D>,
     folder: &mut F,
@@ -181,11 +180,12 @@ where
     F: StageFolder,
     requires is_new { IsNewNumber (F.records folder.old) number }
     requires found { IfSome (F.files folder.old) (IsFoundBy files.items) }
+    requires changes { All (λ file. is_change file ≡ true) files.items }
     ensures done { OnOk result (call.now.options.now.dry_run ≡ false → Takes
         call.now.options.now number action files.items (F.records folder.old)
         (F.records folder.new) (F.files folder.old) (F.files folder.new)) }
-    ensures stopped { IfErr result (λ stop. LeftBy call.now.options.now action stop
-        (F.records folder.old) (F.records folder.new) (F.files folder.old)
+    ensures stopped { IfErr result (λ stop. LeftByFiles call.now.options.now action
+        files.items stop (F.records folder.old) (F.records folder.new) (F.files folder.old)
         (F.files folder.new)) }
     ensures unchanged { call.now.options.now.dry_run ≡ true → IsUnchanged (F.records folder.old)
         (F.records folder.new) (F.files folder.old) (F.files folder.new) }
@@ -203,7 +203,7 @@ where
 }
 
 /// The same for at most one file.
-#[tactic(auto, using(crate::proofs::Left::unchanged_by, crate::proofs::Left::takes_files))]
+#[tactic(auto, using(crate::proofs::Left::unchanged, crate::proofs::Left::takes_files))]
 pub(crate) fn take_file<R, D, F>(
     call: &StageCall<'_, R, D>,
     folder: &mut F,
@@ -217,12 +217,13 @@ where
     F: StageFolder,
     requires is_new { IsNewNumber (F.records folder.old) number }
     requires found { IfSome (F.files folder.old) (IsFoundBy (option_to_list file)) }
+    requires changes { All (λ file. is_change file ≡ true) (option_to_list file) }
     ensures done { OnOk result (call.now.options.now.dry_run ≡ false → Takes
         call.now.options.now number action (option_to_list file) (F.records folder.old)
         (F.records folder.new) (F.files folder.old) (F.files folder.new)) }
-    ensures stopped { IfErr result (λ stop. LeftBy call.now.options.now action stop
-        (F.records folder.old) (F.records folder.new) (F.files folder.old)
-        (F.files folder.new)) }
+    ensures stopped { IfErr result (λ stop. LeftByFiles call.now.options.now action
+        (option_to_list file) stop (F.records folder.old) (F.records folder.new)
+        (F.files folder.old) (F.files folder.new)) }
     ensures unchanged { call.now.options.now.dry_run ≡ true → IsUnchanged (F.records folder.old)
         (F.records folder.new) (F.files folder.old) (F.files folder.new) }
 {

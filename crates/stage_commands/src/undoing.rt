@@ -1,9 +1,8 @@
 //! Undoing a step, and recording that.
 
 ghost use Rattle.std.specs.Prelude.{◌≡◌, IfErr, IfSome, OnErr, OnOk, None, false, option_map, true};
-ghost use Rattle.stage_commands.specs.Actions.{IsUnchanged};
 ghost use Rattle.stage_commands.specs.Backs.{Undoes};
-ghost use Rattle.stage_commands.specs.Taken.{LeftByUndo, MayChange, as_undone};
+ghost use Rattle.stage_commands.specs.Taken.{IsUnchanged, LeftByUndo, MayChange, as_undone};
 ghost use Rattle.stage_folder.specs.Recorded.{IsRecorded, MayBeRecorded};
 ghost use Rattle.stage_folder.specs.Steps.{edited_place, undone};
 

@@ -1,6 +1,4 @@
-use Rattle.std.proofs.Common.{inr, sym}
-use Rattle.stage_commands.proofs.Left.{last_of, left_undone}
-use Rattle.stage_commands.proofs.Replacing.{gone_back, last_unedited, plans_back}
+use Rattle.stage_commands.proofs.Replacing.{gone_back, left_undone, plans_back}
 use Rattle.stage_commands.proofs.backs.go_back.Goals as goal
 
 pub returns-in-Ok-gone_back-clause-done : goal.returns-in-Ok-gone_back-clause-done
@@ -20,14 +18,8 @@ returns-in-Ok-gone_back-clause-planned g c =
 
 pub returns-clause-stopped : goal.returns-clause-stopped
 returns-clause-stopped g c =
-    left_undone c.in-Err-gone_back.stop _ _ _ _ _
-    (last_of _ c.in-Ok.recorded _ c.in-Ok.ensures (sym c.in-Some.ensures))
-    c.in-Err-gone_back.ensures.stopped
-
-pub returns-clause-foreseen : goal.returns-clause-foreseen
-returns-clause-foreseen g c =
     let lifts = rw c.deref.ensures.value at c.in_default.ensures.lifts_none in
     let unedited = rw c.deref.ensures.value at c.in_default.ensures.unedited in
-    inr (plans_back (g.D.Disk.known c.args.call.now.disk.now) c.args.call.now.manifest.now
-    c.args.call.now.options.now.anyway _ _ c.in-Ok.recorded _ c.in-Ok.ensures c.in-Some.ensures
-    lifts (last_unedited _ c.in-Ok.recorded.steps.items _ c.in-Some.ensures unedited))
+    left_undone (g.D.Disk.known c.args.call.now.disk.now) c.args.call.now.manifest.now
+    c.args.call.now.options.now.anyway c.in-Err-gone_back.stop _ _ _ _ c.in-Ok.recorded _
+    c.in-Ok.ensures c.in-Some.ensures lifts unedited c.in-Err-gone_back.ensures.stopped

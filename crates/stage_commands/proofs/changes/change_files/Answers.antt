@@ -67,21 +67,3 @@ returns-in-Put-clause-stopped g c = rw c.in-Put.is c.put.ensures.stopped
 
 pub returns-in-Resume-clause-stopped : goal.returns-in-Resume-clause-stopped
 returns-in-Resume-clause-stopped g c = rw c.in-Resume.is c.resume.ensures.stopped
-
-pub returns-in-Halt-clause-foreseen : goal.returns-in-Halt-clause-foreseen
-returns-in-Halt-clause-foreseen g c = rw c.in-Halt.is c.halt.ensures.foreseen
-
-pub returns-in-HaltRelease-clause-foreseen : goal.returns-in-HaltRelease-clause-foreseen
-returns-in-HaltRelease-clause-foreseen g c = rw c.in-HaltRelease.is c.halt_release.ensures.foreseen
-
-pub returns-in-Raise-clause-foreseen : goal.returns-in-Raise-clause-foreseen
-returns-in-Raise-clause-foreseen g c = rw c.in-Raise.is c.raise.ensures.foreseen
-
-pub returns-in-Back-clause-foreseen : goal.returns-in-Back-clause-foreseen
-returns-in-Back-clause-foreseen g c = rw c.in-Back.is c.go_back.ensures.foreseen
-
-pub returns-in-Put-clause-foreseen : goal.returns-in-Put-clause-foreseen
-returns-in-Put-clause-foreseen g c = rw c.in-Put.is c.put.ensures.foreseen
-
-pub returns-in-Resume-clause-foreseen : goal.returns-in-Resume-clause-foreseen
-returns-in-Resume-clause-foreseen g c = rw c.in-Resume.is c.resume.ensures.foreseen

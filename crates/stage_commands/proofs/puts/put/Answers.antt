@@ -1,4 +1,4 @@
-use Rattle.std.proofs.Common.{inr}
+use Rattle.stage_commands.proofs.Changing.{changes_all}
 use Rattle.stage_commands.proofs.Left.{left_for}
 use Rattle.stage_commands.proofs.Put.{found_changes}
 use Rattle.stage_commands.proofs.Replacing.{has_put}
@@ -18,17 +18,18 @@ pub take_step-requires-clause-found : goal.take_step-requires-clause-found
 take_step-requires-clause-found g c =
     found_changes _ _ _ _ (rw c.in-Ok.field-0-is at c.in-Ok.ensures).files.changes
 
+pub take_step-requires-clause-changes : goal.take_step-requires-clause-changes
+take_step-requires-clause-changes g c =
+    let changes = (rw c.in-Ok.field-0-is at c.in-Ok.ensures).files.changes in
+    changes_all changes.all _ changes.changes
+
 pub returns-in-Ok-take_step-clause-planned : goal.returns-in-Ok-take_step-clause-planned
 returns-in-Ok-take_step-clause-planned g c =
     let plan = rw c.in-Ok.field-0-is at c.in-Ok.ensures in
-    (plan.recorded, plan.are, (c.in-Ok.field-0.files.items, plan.files))
-
-pub returns-in-Err-take_step-clause-foreseen : goal.returns-in-Err-take_step-clause-foreseen
-returns-in-Err-take_step-clause-foreseen g c =
-    let plan = rw c.in-Ok.field-0-is at c.in-Ok.ensures in
-    inr (plan.recorded, plan.are, (c.in-Ok.field-0.files.items, plan.files))
+    (c.in-Ok.field-0.files.items, (plan.recorded, plan.are, plan.files))
 
 pub returns-in-Err-take_step-clause-stopped : goal.returns-in-Err-take_step-clause-stopped
 returns-in-Err-take_step-clause-stopped g c =
-    left_for c.in-Err-take_step.stop _ _ _ _ _ _ _
-    (rw c.in-Ok.field-0-is at c.in-Ok.ensures).action_is c.in-Err-take_step.ensures.stopped
+    let plan = rw c.in-Ok.field-0-is at c.in-Ok.ensures in
+    left_for _ c.in-Err-take_step.stop _ _ _ _ _ _ _ _ plan.action_is
+    (plan.recorded, plan.are, plan.files) c.in-Err-take_step.ensures.stopped

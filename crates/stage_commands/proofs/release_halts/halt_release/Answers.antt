@@ -1,5 +1,6 @@
-use Rattle.std.proofs.Common.{inr}
-use Rattle.stage_commands.proofs.Left.{left_as, on_err_of, on_ok_of}
+use Rattle.std.proofs.Common.{refl}
+use Rattle.stage_commands.proofs.Changing.{changes_file}
+use Rattle.stage_commands.proofs.Left.{left_as, on_ok_of}
 use Rattle.stage_commands.proofs.Replacing.{release_found}
 use Rattle.stage_commands.proofs.release_halts.halt_release.Goals as goal
 
@@ -7,14 +8,16 @@ pub take_file-requires-clause-found : goal.take_file-requires-clause-found
 take_file-requires-clause-found g c =
     release_found _ _ _ _ _ _ c.in-Ok-planned_file.file c.in-Ok-planned_file.ensures
 
+pub take_file-requires-clause-changes : goal.take_file-requires-clause-changes
+take_file-requires-clause-changes g c =
+    changes_file _ _ _ c.in-Ok-planned_file.file c.in-Ok-planned_file.ensures.plan.by
+
 pub returns-in-Ok-planned_file-clause-planned : goal.returns-in-Ok-planned_file-clause-planned
 returns-in-Ok-planned_file-clause-planned g c =
-    on_ok_of c.take_file.result _ (c.in-Ok-planned_file.file, c.in-Ok-planned_file.ensures)
-
-pub returns-in-Ok-planned_file-clause-foreseen : goal.returns-in-Ok-planned_file-clause-foreseen
-returns-in-Ok-planned_file-clause-foreseen g c = on_err_of c.take_file.result _
-    (inr (c.in-Ok-planned_file.file, c.in-Ok-planned_file.ensures))
+    on_ok_of c.take_file.result _
+    (_, (c.in-Ok-planned_file.file, refl, c.in-Ok-planned_file.ensures))
 
 pub returns-in-Ok-planned_file-clause-stopped : goal.returns-in-Ok-planned_file-clause-stopped
 returns-in-Ok-planned_file-clause-stopped g c =
-    left_as c.take_file.result _ _ _ _ _ _ _ c.in-Ok-action_of.ensures c.take_file.ensures.stopped
+    left_as _ c.take_file.result _ _ _ _ _ _ _ _ c.in-Ok-action_of.ensures
+    (c.in-Ok-planned_file.file, refl, c.in-Ok-planned_file.ensures) c.take_file.ensures.stopped
