@@ -1,6 +1,6 @@
 -- What a stop leaves, from what each part leaves.
-use Rattle.std.proofs.Common.{◌≡◌, ◌≢◌, ◌∙◌, ap, refl, subst, sym, ℕ, List, [], ◌∷◌, true}
-use Rattle.std.proofs.Common.{false, zero, suc, ◌⊎◌, inl, inr}
+use Rattle.std.proofs.Common.{◌≡◌, ◌≢◌, ◌∙◌, ap, refl, subst, sym, ℕ, List, [], true}
+use Rattle.std.proofs.Common.{false, zero, ◌⊎◌, inl, inr}
 use Rattle.std.specs.Prelude.{All, Some, None, Result, Ok, Err, IfErr, IfOk, OnOk, IfSome}
 use Rattle.std.specs.Prelude.{option_copied, option_map}
 use Rattle.stage_records.specs.Steps.{ReplacedFile, StagingStep}
@@ -12,12 +12,12 @@ use Rattle.stage_folder.specs.Steps.{has_distinct_names, is_change, undone}
 use Rattle.stage_folder.specs.declared.folder_fault.RecordFault.{RecordFault}
 use Rattle.stage_folder.specs.declared.folder_fault.RecordFault.TheVariants as fault
 use Rattle.stage_commands.specs.Backs.{Undoes}
-use Rattle.stage_commands.specs.Taken.{IsLeftUndone, IsNewNumber, IsNext, IsUnchanged}
+use Rattle.stage_commands.specs.Taken.{IsLeftUndone, IsNewNumber, IsNext, IsUnchangedBy}
 use Rattle.stage_commands.specs.Taken.{IsTrueAfter, LeftBy, LeftByFiles, LeftByTake, LeftByUndo}
 use Rattle.stage_commands.specs.Taken.{MayChange, Performs, RecordLeftBy, Takes, as_undone}
+use Rattle.stage_servers.specs.Stops.{MayBeUnchanged}
 use Rattle.stage_servers.specs.declared.options.StageOptions.{StageOptions}
 use Rattle.stage_servers.specs.declared.outcome.Stop.{Stop}
-use Rattle.stage_servers.specs.declared.outcome.Stop.TheVariants as stop
 
 same : (known : KnownFolder) → known ≡ option_map (λ folder. folder) known
 same None = refl
@@ -25,9 +25,10 @@ same (Some folder) = refl
 
 -- ---- before a file is changed
 
-pub unchanged : (A : Type 0) (old_records new_records : KnownRecords) (old new : KnownFolder)
-    → new_records ≡ old_records → new ≡ old → IsUnchanged old_records new_records old new ⊎ A
-unchanged A old_records new_records old new same e = inl (e, same)
+pub unchanged : (A : Type 0) (why : Stop) (old_records new_records : KnownRecords)
+    (old new : KnownFolder) → MayBeUnchanged why → new_records ≡ old_records → new ≡ old
+    → IsUnchangedBy why old_records new_records old new ⊎ A
+unchanged A why old_records new_records old new says same e = inl ((e, same), says)
 
 -- ---- a step
 
@@ -105,12 +106,10 @@ found_files folder files wanted same found =
 pub not_recorded : (why : Stop) (step : StagingStep) (old_records new_records : KnownRecords)
     (old new : KnownFolder) → step.files ≢ [] → RecordLeftBy why step old_records new_records
     → new ≡ old → LeftByTake why step old_records new_records old new
-not_recorded (stop.Refused reason) step old_records new_records old new some left e =
-    inl (e, left)
-not_recorded (stop.Failed reason) step old_records new_records old new some left e =
-    inr (tt, (some, inl (left, e)))
-not_recorded stop.Memory step old_records new_records old new some left e =
-    inr (tt, (some, inl (left, e)))
+not_recorded why step old_records new_records old new some (inl (same, says)) e =
+    inl ((e, same), says)
+not_recorded why step old_records new_records old new some (inr (may, left)) e =
+    inr (may, (some, inl (left, e)))
 
 pub may_be : (why : RecordFault) (step : StagingStep) (old new : KnownRecords)
     → AreRecordsAfter why step old new → MayBeRecorded step old new
@@ -118,25 +117,11 @@ may_be (fault.NotMade of) step old new left = inl left
 may_be (fault.NotKept of) step old new left = inr left
 may_be (fault.Unknown of) step old new left = left
 
-not_written : (said : Stop) (step : StagingStep) (old new : KnownRecords) → MayChange said
-    → MayBeRecorded step old new → RecordLeftBy said step old new
-not_written (stop.Refused reason) step old new may is = absurd may
-not_written (stop.Failed reason) step old new may is = is
-not_written stop.Memory step old new may is = is
-
-as_before : (said : Stop) (step : StagingStep) (old new : KnownRecords) → new ≡ old
-    → RecordLeftBy said step old new
-as_before (stop.Refused reason) step old new same = same
-as_before (stop.Failed reason) step old new same = inl same
-as_before stop.Memory step old new same = inl same
-
 pub record_left : (said : Stop) (why : RecordFault) (step : StagingStep) (old new : KnownRecords)
     → IsTrueAfter why said → AreRecordsAfter why step old new → RecordLeftBy said step old new
-record_left said (fault.NotMade of) step old new is left = as_before said step old new left
-record_left said (fault.NotKept of) step old new is left =
-    not_written said step old new is (inr left)
-record_left said (fault.Unknown of) step old new is left =
-    not_written said step old new is left
+record_left said (fault.NotMade of) step old new is left = inl (left, is)
+record_left said (fault.NotKept of) step old new is left = inr (is, inr left)
+record_left said (fault.Unknown of) step old new is left = inr (is, left)
 
 module _ (step : StagingStep) (old_records mid new_records : KnownRecords)
     (old between new : KnownFolder) (is : IsRecorded step old_records mid)
@@ -207,27 +192,10 @@ takes_files options number did files wanted old_records new_records old new take
 
 -- ---- undoing
 
-none_undone : (files : List ReplacedFile) (old new : KnownFolder) → new ≡ old
-    → IsPartlyUndone files old new
-none_undone [] old new e = (zero, e ∙ same old)
-none_undone (file ∷ files) old new e = let rest = none_undone files old new e in
-    (suc rest.0, rest.1)
-
-pub unchanged_undo : (why : Stop) (step : StagingStep) (old_records new_records : KnownRecords)
-    (old new : KnownFolder) → new_records ≡ old_records → new ≡ old
-    → LeftByUndo why step old_records new_records old new
-unchanged_undo (stop.Refused reason) step old_records new_records old new same e = (same, e)
-unchanged_undo (stop.Failed reason) step old_records new_records old new same e =
-    inl (same, none_undone step.files old new e)
-unchanged_undo stop.Memory step old_records new_records old new same e =
-    inl (same, none_undone step.files old new e)
-
 undone_by : (why : Stop) (step : StagingStep) (old_records new_records : KnownRecords)
     (old new : KnownFolder) → MayChange why → IsLeftUndone step old_records new_records old new
     → LeftByUndo why step old_records new_records old new
-undone_by (stop.Refused reason) step old_records new_records old new may left = absurd may
-undone_by (stop.Failed reason) step old_records new_records old new may left = left
-undone_by stop.Memory step old_records new_records old new may left = left
+undone_by why step old_records new_records old new may left = inr (may, left)
 
 pub not_restored : (why : Stop) (step : StagingStep) (old_records new_records : KnownRecords)
     (old new : KnownFolder) → MayChange why → new_records ≡ old_records

@@ -10,7 +10,7 @@ use Rattle.stage_records.specs.Steps.{StagingStep}
 use Rattle.stage_rules.specs.InForce.{app_of_any_halt}
 use Rattle.stage_rules.specs.Lifting.{AreNamed, HasAppOf, LiftsNothing}
 use Rattle.stage_commands.specs.Befores.{WasGathered}
-use Rattle.stage_commands.specs.Taken.{IsLast, IsUnchanged, LeftByUndo, as_undone}
+use Rattle.stage_commands.specs.Taken.{IsLast, IsUnchangedBy, LeftByUndo, as_undone}
 use Rattle.stage_servers.specs.Gathered.{IsGathered}
 use Rattle.stage_servers.specs.declared.outcome.Stop.{Stop}
 
@@ -70,6 +70,6 @@ module _ (known : KnownFiles) (current : List ℕ) (anyway : Bool) where
   abbrev pub LeftByBack : Stop → (old_records new_records : KnownRecords)
       → (old new : KnownFolder) → Type 0
   LeftByBack stop old_records new_records old new =
-      IsUnchanged old_records new_records old new
+      IsUnchangedBy stop old_records new_records old new
       ⊎ ((plan : PlansBack old_records old)
       × LeftByUndo stop plan.step old_records new_records old new)

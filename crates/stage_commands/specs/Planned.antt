@@ -17,7 +17,7 @@ use Rattle.stage_commands.specs.Puts.{PlansPut}
 use Rattle.stage_commands.specs.ReleaseHalts.{PlansReleaseHalt}
 use Rattle.stage_commands.specs.Resumes.{PlansResume}
 use Rattle.stage_commands.specs.Stages.{PlansHalt, PlansRaise}
-use Rattle.stage_commands.specs.Taken.{HasPlan, IsUnchanged, LeftBy}
+use Rattle.stage_commands.specs.Taken.{HasPlan, IsUnchangedBy, LeftBy}
 use Rattle.stage_servers.specs.Whole.{AreAllRead, HasOnlySteps}
 
 module _ (known : KnownFiles) (manifest : List ℕ) (options : StageOptions)
@@ -84,13 +84,13 @@ module _ (known : KnownFiles) (manifest : List ℕ) (options : StageOptions)
   LeftByPlan (action.Resume appid buckets) stop new_records new =
       LeftBy (AreResumeFiles appid.now buckets) options (taken.Resume appid.now buckets) stop
       records new_records files new
-  LeftByPlan other stop new_records new = IsUnchanged records new_records files new
+  LeftByPlan other stop new_records new = ⊥
 
   -- what a stop leaves: nothing has changed; or no edit of a file stops the action, and what is
   -- planned is left so
   abbrev pub LeftByAction : StageAction → Stop → (new_records : KnownRecords)
       → (new : KnownFolder) → Type 0
-  LeftByAction action stop new_records new = IsUnchanged records new_records files new
+  LeftByAction action stop new_records new = IsUnchangedBy stop records new_records files new
       ⊎ (HasNoEdits options action records files × LeftByPlan action stop new_records new)
 
   -- whatever a call returns: the action is done, as it is planned; or left as a stop leaves it

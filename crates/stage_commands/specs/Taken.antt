@@ -86,6 +86,12 @@ abbrev pub MayChange : Stop → Type 0
 MayChange (stop.Refused reason) = ⊥
 MayChange other = Unit {0}
 
+-- nothing has changed, and the stop doesn't say that something may have
+abbrev pub IsUnchangedBy : Stop → (old_records new_records : KnownRecords)
+    → (old new : KnownFolder) → Type 0
+IsUnchangedBy stop old_records new_records old new =
+    IsUnchanged old_records new_records old new × MayBeUnchanged stop
+
 -- the next step that does this and replaces these files, by the user and for the reason of the
 -- options: its number is new, it has the bytes that each file has, it changes the bytes of each,
 -- and it isn't undone
@@ -113,14 +119,14 @@ IsLeftTaken step old_records new_records old new = (step.files ≢ [])
 abbrev pub LeftByTake : Stop → StagingStep → (old_records new_records : KnownRecords)
     → (old new : KnownFolder) → Type 0
 LeftByTake stop step old_records new_records old new =
-    IsUnchanged old_records new_records old new
+    IsUnchangedBy stop old_records new_records old new
     ⊎ (MayChange stop × IsLeftTaken step old_records new_records old new)
 
 -- nothing has changed; or the next step that does this and replaces these files is left so
 abbrev pub LeftByFiles : StageOptions → StepAction → List ReplacedFile → Stop
     → (old_records new_records : KnownRecords) → (old new : KnownFolder) → Type 0
 LeftByFiles options action files stop old_records new_records old new =
-    IsUnchanged old_records new_records old new
+    IsUnchangedBy stop old_records new_records old new
     ⊎ ((step : StagingStep) × IsNext options action files old_records old step
     × LeftByTake stop step old_records new_records old new)
 
@@ -132,7 +138,7 @@ HasPlan IsPlan = (files : List ReplacedFile) × IsPlan files
 abbrev pub LeftBy : (IsPlan : List ReplacedFile → Type 0) → StageOptions → StepAction → Stop
     → (old_records new_records : KnownRecords) → (old new : KnownFolder) → Type 0
 LeftBy IsPlan options action stop old_records new_records old new =
-    IsUnchanged old_records new_records old new
+    IsUnchangedBy stop old_records new_records old new
     ⊎ ((files : List ReplacedFile) × IsPlan files
     × LeftByFiles options action files stop old_records new_records old new)
 
@@ -146,13 +152,12 @@ IsLeftUndone step old_records new_records old new =
     ⊎ (IsRecorded (as_undone step) old_records new_records
     × (new ≡ option_map (undone step.files) old))
 
--- a stop that says that nothing has changed leaves all records and files as before
+-- nothing has changed; or the stop doesn't say so, and the undoing is left so
 abbrev pub LeftByUndo : Stop → StagingStep → (old_records new_records : KnownRecords)
     → (old new : KnownFolder) → Type 0
-LeftByUndo (stop.Refused reason) step old_records new_records old new =
-    (new_records ≡ old_records) × (new ≡ old)
-LeftByUndo other step old_records new_records old new =
-    IsLeftUndone step old_records new_records old new
+LeftByUndo stop step old_records new_records old new =
+    IsUnchangedBy stop old_records new_records old new
+    ⊎ (MayChange stop × IsLeftUndone step old_records new_records old new)
 
 -- ---- a record that can't be written
 
@@ -162,7 +167,8 @@ abbrev pub IsTrueAfter : RecordFault → Stop → Type 0
 IsTrueAfter (fault.NotMade why) stop = MayBeUnchanged stop
 IsTrueAfter other stop = MayChange stop
 
--- the records after a stop at a step's record
+-- the records after a stop at a step's record: they are as before; or the stop doesn't say so, and
+-- they may have it
 abbrev pub RecordLeftBy : Stop → StagingStep → (old new : KnownRecords) → Type 0
-RecordLeftBy (stop.Refused reason) step old new = new ≡ old
-RecordLeftBy other step old new = MayBeRecorded step old new
+RecordLeftBy stop step old new =
+    ((new ≡ old) × MayBeUnchanged stop) ⊎ (MayChange stop × MayBeRecorded step old new)

@@ -8,6 +8,7 @@ ghost use Rattle.stage_servers.specs.Whole as specs;
 ghost use Rattle.stage_servers.specs.Whole.{IsSeenWhole};
 
 use crate::changes::change_and_load;
+use crate::step_stops::before_change;
 use bounded_files::Disk;
 use stage_folder::StageFolder;
 use stage_records::StageAction;
@@ -95,7 +96,7 @@ where
     if only_looks(action) {
         return match look(call, &*folder, action, lines) {
             Ok(is_whole) => Ok(is_whole),
-            Err(stop) => Err(stop),
+            Err(stop) => Err(before_change(stop)),
         };
     }
     match change_and_load(call, folder, action, lines) {

@@ -9,6 +9,7 @@ ghost use Rattle.stage_commands.specs.Taken.{HasPlan, IsUnchanged, LeftBy};
 ghost use Rattle.stage_records.specs.declared.step.StepAction.TheVariants.{Halt};
 
 use crate::app_file::{app_to_change, replacement};
+use crate::step_stops::before_change;
 use crate::steps::{number_in, owned_text};
 use crate::taking::take_file;
 use bounded_files::Disk;
@@ -113,7 +114,7 @@ where
     let alloc = call.rt.alloc();
     let number = match number_in(alloc, folder) {
         Ok(number) => number,
-        Err(stop) => return Err(stop),
+        Err(stop) => return Err(before_change(stop)),
     };
     let Ok(owned) = owned_text(alloc, appid) else {
         return Err(Stop::Memory);
@@ -125,7 +126,7 @@ where
         }
         Err(stop) => {
             drop(owned);
-            Err(stop)
+            Err(before_change(stop))
         }
     }
 }

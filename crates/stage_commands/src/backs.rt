@@ -7,6 +7,7 @@ ghost use Rattle.stage_commands.specs.Taken.{IsUnchanged};
 ghost use Rattle.stage_records.specs.Steps.{last_step};
 
 use crate::restored::compare_restored;
+use crate::step_stops::before_change;
 use crate::stop_texts::NOTHING_TO_UNDO;
 use crate::undoing::{stop_at_edit, undo_unless_dry};
 use bounded_files::Disk;
@@ -82,10 +83,10 @@ where
     let alloc = call.rt.alloc();
     let recorded = match read_steps(alloc, folder) {
         Ok(recorded) => recorded,
-        Err(stop) => return Err(stop),
+        Err(stop) => return Err(before_change(stop)),
     };
     if let Err(stop) = compare_last(call, &*folder, &recorded.steps, lines) {
-        return Err(stop);
+        return Err(before_change(stop));
     }
     let Some(step) = take_last(recorded.steps) else {
         return Err(refused(alloc, NOTHING_TO_UNDO));

@@ -11,6 +11,7 @@ use crate::puts::put;
 use crate::raises::raise;
 use crate::release_halts::halt_release;
 use crate::resumes::resume;
+use crate::step_stops::before_change;
 use bounded_files::Disk;
 use stage_folder::StageFolder;
 use stage_records::StageAction;
@@ -129,7 +130,7 @@ where
 {
     let Found { servers, halted } = match found_before(call, &*folder, action, lines) {
         Ok(found) => found,
-        Err(stop) => return Err(stop),
+        Err(stop) => return Err(before_change(stop)),
     };
     let call = StageCall {
         rt: call.rt,

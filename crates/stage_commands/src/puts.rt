@@ -13,6 +13,7 @@ use crate::judged::judged_at;
 use crate::lifting::stop_if_lifted;
 use crate::present::{Present, lifted_by, present_manifest};
 use crate::put_files::files_to_put;
+use crate::step_stops::before_change;
 use crate::steps::{number_in, owned_text};
 use crate::taking::take_step;
 use crate::warned::push_warnings_of;
@@ -183,6 +184,6 @@ where
             Ok(()) => Ok(()),
             Err(stop) => Err(stop),
         },
-        Err(stop) => Err(stop),
+        Err(stop) => Err(before_change(stop)),
     }
 }

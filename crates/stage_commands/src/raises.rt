@@ -15,6 +15,7 @@ ghost use Rattle.stage_folder.specs.Folders.{GivesFile};
 
 use crate::app_file::{app_to_change, replacement};
 use crate::next_rows::compare_with;
+use crate::step_stops::before_change;
 use crate::steps::{number_in, owned_text};
 use crate::stop_texts::{HAS_PROGRAM, IS_HALTED, NO_TEXT, not_raised};
 use crate::taking::take_file;
@@ -186,12 +187,12 @@ where
     let alloc = call.rt.alloc();
     let recorded = match read_steps(alloc, folder) {
         Ok(recorded) => recorded,
-        Err(stop) => return Err(stop),
+        Err(stop) => return Err(before_change(stop)),
     };
     drop(recorded);
     let number = match number_in(alloc, folder) {
         Ok(number) => number,
-        Err(stop) => return Err(stop),
+        Err(stop) => return Err(before_change(stop)),
     };
     let Ok(owned) = owned_text(alloc, appid) else {
         return Err(Stop::Memory);
@@ -206,7 +207,7 @@ where
         }
         Err(stop) => {
             drop(owned);
-            Err(stop)
+            Err(before_change(stop))
         }
     }
 }

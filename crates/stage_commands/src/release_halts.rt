@@ -12,6 +12,7 @@ ghost use Rattle.stage_records.specs.declared.step.StepAction.TheVariants.{HaltR
 
 use crate::app_file::{app_to_change, replacement};
 use crate::raises::rule_bytes;
+use crate::step_stops::before_change;
 use crate::steps::{number_in, owned_text};
 use crate::stop_texts::{HALTS_ALL, NO_TEXT, not_left_out};
 use crate::taking::take_file;
@@ -157,7 +158,7 @@ where
     let alloc = call.rt.alloc();
     let number = match number_in(alloc, folder) {
         Ok(number) => number,
-        Err(stop) => return Err(stop),
+        Err(stop) => return Err(before_change(stop)),
     };
     let Ok(action) = action_of(alloc, appid, version) else {
         return Err(Stop::Memory);
@@ -166,7 +167,7 @@ where
         Ok(file) => take_file(call, folder, number, action, file, lines),
         Err(stop) => {
             drop(action);
-            Err(stop)
+            Err(before_change(stop))
         }
     }
 }

@@ -14,6 +14,7 @@ ghost use Rattle.stage_rules.specs.InForce as in_force;
 use crate::app_file::app_to_change;
 use crate::resume_rows::{compare_resumed, compared_bytes};
 use crate::resumed_file::resumed_file_of;
+use crate::step_stops::before_change;
 use crate::steps::{number_in, owned_text};
 use crate::stop_texts::{NOT_HALTED, release_halted};
 use crate::taking::take_file;
@@ -152,20 +153,20 @@ where
     let alloc = call.rt.alloc();
     let recorded = match read_steps(alloc, folder) {
         Ok(recorded) => recorded,
-        Err(stop) => return Err(stop),
+        Err(stop) => return Err(before_change(stop)),
     };
     let number = match number_in(alloc, folder) {
         Ok(number) => number,
         Err(stop) => {
             drop(recorded);
-            return Err(stop);
+            return Err(before_change(stop));
         }
     };
     let planned = planned_file(call, folder, &recorded.steps, appid, buckets, lines);
     drop(recorded);
     let file = match planned {
         Ok(file) => file,
-        Err(stop) => return Err(stop),
+        Err(stop) => return Err(before_change(stop)),
     };
     match owned_text(alloc, appid) {
         Ok(appid) => {

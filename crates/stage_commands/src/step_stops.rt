@@ -4,11 +4,23 @@
 // changed don't say that nothing has.
 
 ghost use Rattle.stage_commands.specs.Taken.{IsTrueAfter, MayChange};
+ghost use Rattle.stage_servers.specs.Stops.{MayBeUnchanged};
 
 use printing::TextBuffer;
 use stage_folder::{FolderFault, RecordFault};
 use stage_servers::{RECORDS, Stop, in_folder, refusal};
 use std::alloc::Global;
+
+/// Why an action stops before it changes a file or a record: it says so.
+pub(crate) fn before_change(stop: Stop) -> Stop
+    ensures { MayBeUnchanged result }
+{
+    match stop {
+        Stop::Refused(reason) => Stop::Refused(reason),
+        Stop::Failed(reason) => Stop::Refused(reason),
+        Stop::Memory => Stop::Memory,
+    }
+}
 
 /// Another call is at work in a folder: that of this note, if it isn't empty.
 pub(crate) fn at_work(alloc: Global, folder: &str, holder: &str) -> Stop {

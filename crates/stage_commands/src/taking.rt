@@ -16,7 +16,7 @@ use stage_folder::{StageFolder, StepFault, perform, write_record};
 use stage_records::{ReplacedFile, StagingStep, StepAction};
 use stage_servers::{Lines, StageCall, Stop};
 use stage_text::now_of;
-use std::alloc::Global;
+use std::alloc::{AllocError, Global};
 use std::time::Clock;
 
 // A line for each file that is replaced, or would be.
@@ -140,7 +140,7 @@ fn new_step<R: AllocGlobal + Clock, D>(
     number: u32,
     action: StepAction,
     files: Vec<ReplacedFile>,
-) -> Result<StagingStep, Stop>
+) -> Result<StagingStep, AllocError>
     ensures number { IfOk result (λ step. step.number ≡ number) }
     ensures action { IfOk result (λ step. step.action ≡ action) }
     ensures user { IfOk result (λ step.
@@ -192,7 +192,7 @@ where
 {
     let step = match new_step(call, number, action, files) {
         Ok(step) => step,
-        Err(stop) => return Err(stop),
+        Err(_) => return Err(Stop::Memory),
     };
     let taken = take(call.rt.alloc(), folder, &step, call.options.dry_run, lines);
     drop(step);

@@ -6,7 +6,7 @@ ghost use Rattle.stage_commands.specs.Taken.{IsUnchanged, LeftByUndo, MayChange,
 ghost use Rattle.stage_folder.specs.Recorded.{IsRecorded, MayBeRecorded};
 ghost use Rattle.stage_folder.specs.Steps.{edited_place, undone};
 
-use crate::step_stops::{maybe_noted, not_kept, not_noted, not_undone};
+use crate::step_stops::{before_change, maybe_noted, not_kept, not_noted, not_undone};
 use crate::steps::name_at;
 use crate::stop_texts::EDITED;
 use stage_folder::{
@@ -19,7 +19,7 @@ use std::alloc::Global;
 
 // Restores the files of a step. After a stop none of them is edited (`stopped_is_undoable`), so it
 // can be called again.
-#[tactic(auto, using(crate::proofs::Left::unchanged_undo, crate::proofs::Left::not_restored))]
+#[tactic(auto, using(crate::proofs::Left::unchanged, crate::proofs::Left::not_restored))]
 fn restore_files<F: StageFolder>(
     alloc: Global,
     folder: &mut F,
@@ -74,7 +74,7 @@ fn note_undone<F: StageFolder>(
 }
 
 // Undoes a step, and records that.
-#[tactic(auto, using(crate::proofs::Left::undoes, crate::proofs::Left::restored_by))]
+#[tactic(auto, using(crate::proofs::Left::undoes))]
 fn undo_step<F: StageFolder>(
     alloc: Global,
     folder: &mut F,
@@ -134,7 +134,7 @@ fn print_undo<F: StageFolder>(
 
 /// Undoes a step, and records that. For `--dry-run` it only prints the step, unless that couldn't
 /// be undone.
-#[tactic(auto, using(crate::proofs::Left::unchanged_undo))]
+#[tactic(auto, using(crate::proofs::Left::unchanged))]
 pub(crate) fn undo_unless_dry<F: StageFolder>(
     alloc: Global,
     folder: &mut F,
@@ -154,7 +154,7 @@ pub(crate) fn undo_unless_dry<F: StageFolder>(
     if dry_run {
         return match print_undo(alloc, &*folder, &*step, lines) {
             Ok(()) => Ok(()),
-            Err(stop) => Err(stop),
+            Err(stop) => Err(before_change(stop)),
         };
     }
     if !lines.are_complete() {

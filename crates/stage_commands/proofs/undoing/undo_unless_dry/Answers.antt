@@ -1,9 +1,9 @@
 use Rattle.std.proofs.Common.{refl}
 use Rattle.stage_servers.specs.declared.outcome.Stop.TheVariants as stop
-use Rattle.stage_commands.proofs.Left.{unchanged_undo}
+use Rattle.stage_commands.proofs.Left.{unchanged}
 use Rattle.stage_commands.proofs.undoing.undo_unless_dry.Goals as goal
 
 pub returns-then-not-are_complete-clause-stopped :
     goal.returns-then-not-are_complete-clause-stopped
 returns-then-not-are_complete-clause-stopped g c =
-    unchanged_undo stop.Memory c.args.step.now _ _ _ _ refl refl
+    unchanged _ stop.Memory _ _ _ _ tt refl refl
