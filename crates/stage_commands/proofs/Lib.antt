@@ -9,3 +9,4 @@ mod PutPlan
 mod Replacing
 mod Seen
 mod Then
+mod UnlistedHalts

@@ -1,7 +1,7 @@
 -- The manifest as before a step, which may not be gathered; and the halts that undoing it lifts.
 use Rattle.std.proofs.Common.{◌≡◌, ◌∙◌, ◌⊎◌, inl, inr, ap, refl, subst, sym, true≢false, ℕ}
 use Rattle.std.proofs.Common.{List, [], Bool, true, false, codes}
-use Rattle.std.specs.Prelude.{Option, Some, None, IfSome, ◌||◌, if◌then◌else◌}
+use Rattle.std.specs.Prelude.{All, Option, Some, None, IfSome, ◌||◌, if◌then◌else◌}
 use Rattle.std.proofs.lemmas.List.Elements.{All-weaker}
 use Rattle.std.proofs.lemmas.Slice.Eq.{bytes_eq-Decides}
 use Rattle.bounded_files.specs.Files.{KnownFiles}
@@ -24,6 +24,7 @@ use Rattle.stage_rules.specs.Lifting.{AreNamed, HasAppOf, IsLiftNamed, LiftsNoth
 use Rattle.stage_rules.specs.Lifting.{StaysHalted, action_in_force}
 use Rattle.stage_commands.specs.Backs.{AreNamedByUndoing, LiftsNoneByUndoing, UndoingLiftsNone}
 use Rattle.stage_commands.specs.Befores.{GivesBefore, RefusesBefore, WasGathered}
+use Rattle.stage_commands.specs.Unlisted.{IsListedOrNamed, is_unlisted_halt}
 use Rattle.stage_servers.specs.Gathered.{IsGathered, precedes_files}
 use Rattle.stage_servers.specs.Replaced.{file_named}
 
@@ -82,6 +83,28 @@ lifts_nothing steps current next named are none =
     (λ step is. none_stays current next step.is_undone step.action is) steps
     (subst (AreNamed steps current next) none are)
 
+none_unlisted : (current next : List AppSources) (undone : Bool) (action : StepAction)
+    → (is_unlisted_halt current next (if undone then None else Some action) ≡ false)
+    ⊎ HasAppOf [] action
+    → is_unlisted_halt current next (if undone then None else Some action) ≡ false
+none_unlisted current next undone action (inl is) = is
+none_unlisted current next true action (inr has) = refl
+none_unlisted current next false (Halt appid) (inr has) = absurd (true≢false (sym has))
+none_unlisted current next false (HaltRelease appid version) (inr has) =
+    absurd (true≢false (sym has))
+none_unlisted current next false (Raise appid buckets) (inr has) = refl
+none_unlisted current next false (Resume appid buckets) (inr has) = refl
+none_unlisted current next false (Put manifest) (inr has) = refl
+
+lists_halted : (steps : List StagingStep) (current next : List AppSources)
+    (named : List (List ℕ)) → All (IsListedOrNamed current next named) steps → named ≡ []
+    → All (λ step. is_unlisted_halt current next (action_in_force step) ≡ false) steps
+lists_halted steps current next named are none =
+    All-weaker (IsListedOrNamed current next [])
+    (λ step. is_unlisted_halt current next (action_in_force step) ≡ false)
+    (λ step is. none_unlisted current next step.is_undone step.action is) steps
+    (subst (λ n. All (IsListedOrNamed current next n) steps) none are)
+
 no_own : (action : StepAction) → HasAppOf [] action → app_of_any_halt action ≡ None
 no_own (Halt appid) has = absurd (true≢false (sym has))
 no_own (HaltRelease appid version) has = absurd (true≢false (sym has))
@@ -93,8 +116,11 @@ none_by_undoing : (steps : List StagingStep) (step : StagingStep)
     (present before : Option CollectedManifest) (named : List (List ℕ))
     → AreNamedByUndoing steps step present before named → named ≡ []
     → LiftsNoneByUndoing steps step present before
-none_by_undoing steps step (Some present) (Some before) named are none =
-    lifts_nothing steps present.sources.apps.items before.sources.apps.items named are none
+none_by_undoing steps step (Some present) (Some before) named are none = (
+  lifts_nothing steps present.sources.apps.items before.sources.apps.items named are.0 none,
+  λ some. lists_halted steps present.sources.apps.items before.sources.apps.items named
+      (are.1 some) none,
+)
 none_by_undoing steps step (Some present) None named has none =
     no_own step.action (subst (λ n. HasAppOf n step.action) none has)
 none_by_undoing steps step None before named has none =

@@ -11,6 +11,7 @@ use Rattle.stage_rules.specs.InForce.{app_of_any_halt}
 use Rattle.stage_rules.specs.Lifting.{AreNamed, HasAppOf, LiftsNothing}
 use Rattle.stage_commands.specs.Befores.{WasGathered}
 use Rattle.stage_commands.specs.Taken.{IsLast, IsUnchangedBy, LeftByUndo, as_undone}
+use Rattle.stage_commands.specs.Unlisted.{AreUnlistedNamed, ListsHalted}
 use Rattle.stage_servers.specs.Gathered.{IsGathered}
 use Rattle.stage_servers.specs.declared.outcome.Stop.{Stop}
 
@@ -19,6 +20,7 @@ abbrev pub LiftsNoneByUndoing : List StagingStep → StagingStep
     → (present before : Option CollectedManifest) → Type 0
 LiftsNoneByUndoing steps step (Some present) (Some before) =
     LiftsNothing steps present.sources.apps.items before.sources.apps.items
+    × ListsHalted steps present.sources.apps.items before
 LiftsNoneByUndoing steps step present before = app_of_any_halt step.action ≡ None
 
 -- the apps of the halts that undoing a step lifts are among these; if a manifest can't be gathered,
@@ -27,6 +29,7 @@ abbrev pub AreNamedByUndoing : List StagingStep → StagingStep
     → (present before : Option CollectedManifest) → (named : List (List ℕ)) → Type 0
 AreNamedByUndoing steps step (Some present) (Some before) named =
     AreNamed steps present.sources.apps.items before.sources.apps.items named
+    × AreUnlistedNamed steps present.sources.apps.items before named
 AreNamedByUndoing steps step present before named = HasAppOf named step.action
 
 -- undoing a step lifts no halt of these steps, by the manifests in place and before it, as far as

@@ -11,3 +11,4 @@ pub mod PutPlans
 pub mod Backs
 pub mod Actions
 pub mod Planned
+pub mod Unlisted

@@ -51,6 +51,7 @@ mod steps;
 mod stop_texts;
 mod taking;
 mod undoing;
+mod unlisted;
 mod warned;
 
 pub use actions::stage_in;

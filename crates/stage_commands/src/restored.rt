@@ -10,10 +10,11 @@ use crate::comparison::compare;
 use crate::gathered::collected_before;
 use crate::judged::judged;
 use crate::lifting::stop_if_lifted;
+use crate::unlisted::lifted_or_unlisted;
 use bounded_files::Disk;
 use load::{CollectedManifest, JudgedManifest};
 use stage_records::{StagingStep, StepAction};
-use stage_rules::{app_of_any_halt, lifted_apps, push_once};
+use stage_rules::{app_of_any_halt, push_once};
 use stage_servers::{Lines, StageCall, Stop, collected_now};
 use std::alloc::{AllocError, Global};
 use std::net::{Net, TcpStream};
@@ -40,8 +41,9 @@ fn own_app(alloc: Global, action: &StepAction) -> Result<Vec<String>, AllocError
     }
 }
 
-// The apps of the halts in force that undoing a step lifts. If a manifest can't be gathered, so
-// that this isn't known, the step's own halt is taken to be lifted.
+// The apps of the halts in force that undoing a step lifts, or may lift, since their files weren't
+// read. If a manifest can't be gathered, so that this isn't known, the step's own halt is taken to
+// be lifted.
 fn lifted_by_undoing(
     alloc: Global,
     steps: &[StagingStep],
@@ -54,7 +56,10 @@ fn lifted_by_undoing(
 {
     match (present, before) {
         (Some(present), Some(before)) => {
-            lifted_apps(alloc, steps, &present.sources.apps, &before.sources.apps)
+            match lifted_or_unlisted(alloc, steps, &present.sources.apps, before) {
+                Ok(named) => Ok(named),
+                Err(_) => Err(AllocError),
+            }
         }
         _ => own_app(alloc, &step.action),
     }
