@@ -120,8 +120,8 @@ def is_loaded(night, call, plan, known, server, output):
         return call.other_server
     is_cut = set(server.load.appids()) - known and any(it.is_damaged for it in night.steps)
     if is_strange is None or is_cut:
-        # Perhaps only the cut record knows what it serves: then it is another one, unless it is what
-        # `stage` loaded last.
+        # Perhaps only the cut record knows what it serves: then it is another one, unless `stage`
+        # loaded it last.
         halted = call.word == "halt" and call.appid in server.halts
         return len(generations(output, server.operator)) > halted
     if call.word != "halt" or call.anyway or server.load in (plan.now, plan.then):

@@ -49,7 +49,7 @@ def left_by_each(night):
 
 
 def is_other(night, known, server):
-    """Whether a server has an app that isn't known in this folder, and serves what no step is known to have left;
+    """Whether a server has an app that isn't known in this folder, and serves what no step left;
     None if a step left it that is undone, or before a file was edited that no step has."""
     if not set(server.load.appids()) - known or server.load in left_by_each(night):
         return False
